@@ -1,0 +1,3 @@
+// Refusals: their causes, and the line that tells one.
+pub mod cause;
+pub mod refusal;

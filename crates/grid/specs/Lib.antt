@@ -1,0 +1,4 @@
+pub mod Cells
+pub mod Floors
+pub mod Moves
+pub mod Places

@@ -1,0 +1,9 @@
+pub mod Back
+pub mod Entries
+pub mod Exact
+pub mod Found
+pub mod Limits
+pub mod Part
+pub mod Scans
+pub mod Steps
+pub mod Whole
