@@ -1,3 +1,4 @@
+pub mod Board
 pub mod Cells
 pub mod Floors
 pub mod Moves

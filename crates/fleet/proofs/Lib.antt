@@ -1,0 +1,4 @@
+pub mod Cells
+pub mod Lists
+pub mod Scans
+pub mod Skirts

@@ -1,0 +1,9 @@
+pub mod Convoys
+pub mod Lists
+pub mod Offsets
+pub mod OutlineFleets
+pub mod Outlined
+pub mod RectangleFleets
+pub mod Refusals
+pub mod Scans
+pub mod SkirtFleets

@@ -1,0 +1,4 @@
+pub mod Collisions
+pub mod Overlaps
+pub mod Shares
+pub mod Stands

@@ -1,0 +1,5 @@
+pub mod Tasks
+pub mod Plans
+pub mod Instance
+pub mod Promise
+pub mod Theorems

@@ -1,0 +1,4 @@
+pub mod DifferenceSets
+pub mod Sweeps
+pub mod TabledFleets
+pub mod Tables

@@ -1,0 +1,13 @@
+pub mod Lists
+pub mod Conflicts
+pub mod Nodes
+pub mod Optimal
+pub mod Turns
+pub mod Bounds
+pub mod Family
+pub mod Limits
+pub mod Costs
+pub mod Choice
+pub mod Calls
+pub mod Law
+pub mod Trials

@@ -1,0 +1,13 @@
+pub mod Lists
+pub mod Setting
+pub mod Routes
+pub mod Plans
+pub mod Constraints
+pub mod Choice
+pub mod Conflicts
+pub mod Search
+pub mod Tree
+pub mod Calls
+pub mod Law
+pub mod Theorems
+pub mod Trials

@@ -1,0 +1,15 @@
+pub mod Adding
+pub mod Alls
+pub mod Filled
+pub mod Firsts
+pub mod Fits
+pub mod Laws
+pub mod Least
+pub mod Plainly
+pub mod Reach
+pub mod Shown
+pub mod Sides
+pub mod Sums
+pub mod Totals
+pub mod Trails
+pub mod Turned

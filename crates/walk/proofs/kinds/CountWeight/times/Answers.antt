@@ -1,0 +1,6 @@
+use native.Mathlib.Omega.{arith}
+use Rattle.walk.proofs.Laws.{same-count}
+use Rattle.walk.proofs.kinds.CountWeight.times.Needs as need
+
+pub returns : need.returns
+returns c = same-count _ _ (omega arith)

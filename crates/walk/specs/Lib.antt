@@ -1,0 +1,9 @@
+pub mod Semiring
+pub mod Kinds
+pub mod Sequences
+pub mod Routes
+pub mod Plain
+pub mod Sleds
+pub mod Promises
+pub mod Workings
+pub mod Examples
