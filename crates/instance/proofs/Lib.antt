@@ -1,0 +1,5 @@
+pub mod Absent
+pub mod Making
+pub mod Past
+pub mod Sets
+pub mod Terms

@@ -1,0 +1,9 @@
+pub mod Words
+pub mod States
+pub mod Opening
+pub mod Advancing
+pub mod Telling
+pub mod Counting
+pub mod Printing
+pub mod Runs
+pub mod Workings
