@@ -1,4 +1,6 @@
 // How long a first route and a route count take on an open floor of 16 by 16. The sums of costs and counts are printed, and with the argument --time also the times.
+#![tactic(auto)]
+
 use std::time::Instant;
 use std::{env, io};
 use walk::count::Count;

@@ -1,4 +1,6 @@
 // Runs of a solved plan: a deck releases one at a time, and a slip that cannot be lost stands for it until it is finished or recalled.
+#![tactic(auto)]
+
 ghost use Rattle.deck.specs.Law.{HistoriesAreLawful};
 
 pub mod call;

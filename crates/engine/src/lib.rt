@@ -1,4 +1,6 @@
 // The constraint tree as a program, for every problem: a table of nodes, and turns that are those of the theory.
+#![tactic(auto)]
+
 pub mod call;
 mod calls;
 mod conflict;

@@ -55,7 +55,7 @@ impl NodeTable {
     // Fills the next record where a node was made.
     pub(crate) fn fill(&mut self, made: Option<Node>)
         requires { vec_len self.old.nodes < vec_capacity self.old.nodes }
-        ensures rows { self.new.nodes.items ≡ self.old.nodes.items ++ option_to_list IfOk }
+        ensures rows { self.new.nodes.items ≡ self.old.nodes.items ++ option_to_list made }
         ensures len { vec_len self.new.nodes ≤ vec_len self.old.nodes + 1 }
         ensures capacity { vec_capacity self.new.nodes ≡ vec_capacity self.old.nodes }
     {

@@ -1,3 +1,5 @@
 // Refusals: their causes, and the line that tells one.
+#![tactic(auto)]
+
 pub mod cause;
 pub mod refusal;

@@ -1,4 +1,6 @@
 // Fleets: how many sleds there are, and which offsets each has.
+#![tactic(auto)]
+
 ghost use Rattle.std.specs.Prelude.{◌≡◌, ℕ, ◌≤◌};
 ghost use Rattle.fleet.specs.Offsets.{Sleds, OnlyBelow, AllNear, NoneEmpty};
 

@@ -1,4 +1,6 @@
 // Sleds on a floor: where one may stand, which share a cell, and which collide in a step.
+#![tactic(auto)]
+
 pub mod collision;
 mod overlap;
 pub mod relative;

@@ -1,4 +1,6 @@
 // The floor and the board under it: positions, places, moves, and which cells are free.
+#![tactic(auto)]
+
 pub mod board;
 pub mod cell;
 pub mod floor;

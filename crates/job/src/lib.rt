@@ -1,4 +1,6 @@
 // Jobs, and the file that a job is read from.
+#![tactic(auto)]
+
 mod field;
 mod floor_field;
 pub mod job;

@@ -1,4 +1,6 @@
 // The lines that tell how a search ended.
+#![tactic(auto)]
+
 pub mod outcome;
 pub mod report;
 mod route;

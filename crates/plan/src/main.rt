@@ -1,5 +1,7 @@
 // Reads a job file from standard input and prints the cheapest collision-free plan, or that there is none, or that the table of
 // nodes is full, or the refusal. With the argument --check it prints the job and what each sled could do alone.
+#![tactic(auto)]
+
 use anyhow::anyhow;
 use fault::cause::Fault;
 use fault::refusal::{LINES_BUFFER, write_refusal};

@@ -1,5 +1,7 @@
 // Plans of a job with a fleet, and the promise about searches for them. The definitions stand in specs/, each theorem in the contract of
 // a function that does nothing else.
+#![tactic(auto)]
+
 ghost use Rattle.plans.specs.Theorems.{JobsAreTasks, CollisionsAreMutual, PlansHaveOneSum, InstanceIsTrueToWords, InstanceKeepsTerms, PlansAreNumbered, PlansArePlaced};
 ghost use Rattle.plans.specs.Theorems.{MakespansCarryOver, BoundsCarryOver, LeastSumsCarryOver, NoPlanCarriesOver, LawfulKeepsThePromise, EveryRunKeepsThePromise};
 

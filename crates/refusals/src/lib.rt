@@ -1,4 +1,6 @@
 // What the job reader turns away, case by case: the cause and the byte that each fault names.
+#![tactic(auto)]
+
 #[cfg(test)]
 mod tests {
     use fault::cause::{Cause, Fault};

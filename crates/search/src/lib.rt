@@ -1,4 +1,6 @@
 // Joint plans: a search takes a job with a fleet and a splitting rule, and makes the constraint tree turn by turn.
+#![tactic(auto)]
+
 mod advance;
 pub mod call;
 mod open;

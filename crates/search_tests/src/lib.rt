@@ -1,4 +1,6 @@
 // Calls of a search in every state, and what they answer.
+#![tactic(auto)]
+
 #[cfg(test)]
 mod tests {
     use fault::cause::{Cause, Fault};

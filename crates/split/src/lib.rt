@@ -1,4 +1,6 @@
 // Rules that split a meeting of two sleds into two sets of places, of which the sleds are then barred.
+#![tactic(auto)]
+
 ghost use Rattle.std.specs.Prelude.{◌≡◌};
 ghost use Rattle.grid.specs.Places.{position_of};
 ghost use Rattle.split.specs.Situations.{Sets, situation, HoldsU, HoldsV, AllShare, OnlyMeeting};

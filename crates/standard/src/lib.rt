@@ -1,4 +1,6 @@
 // The fleet that a job names: a skirt over a convoy of its rectangles and its drawings.
+#![tactic(auto)]
+
 ghost use Rattle.std.specs.Prelude.{◌≡◌, ℕ, length, ℤ};
 ghost use Rattle.job.specs.Facts.{facts};
 ghost use Rattle.standard.specs.JobFleets.{fleet_size, fleet_sleds, job_sleds};

@@ -1,4 +1,6 @@
 // Where a sled may stand, worked out once for the whole board.
+#![tactic(auto)]
+
 ghost use Rattle.standing.specs.Tables.{StandsAt};
 
 use fleet::Fleet;

@@ -1,6 +1,8 @@
 // Text in a caller's buffer: bytes, and numbers in decimal without leading zeros.
 // A call takes the position to write at and answers the position after what it wrote. Where the buffer has
 // no room for all of it, it writes nothing and answers no position; and from no position it writes nothing.
+#![tactic(auto)]
+
 ghost use Rattle.std.specs.Prelude.{◌≡◌, ◌+◌, ◌≤◌, length, decimal};
 ghost use Rattle.text.specs.Texts.{written, Puts};
 

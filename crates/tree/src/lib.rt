@@ -1,5 +1,7 @@
 // The constraint tree and what is proved of it. The definitions stand in specs/, each theorem in the contract of a function that does
 // nothing else.
+#![tactic(auto)]
+
 ghost use Rattle.tree.specs.Theorems.{CostIsLeast, ChoiceIsFirst, ChoiceIsSettled, PlannerKeepsTerms, ConflictIsFirst, ConflictIsSettled, CheapestIsLowest, CheapestIsSettled, ReplansOne, NodesDescend, NodesStay};
 ghost use Rattle.tree.specs.Theorems.{BoundsNeverExceedAPlan, BoundsNeverFall, SolvedIsLeastSum, NoneMeansNoPlan, SolvedSumsAgree, SearchEnds, TurnsCount, LargerLimitSame, RunsAreLawful};
 

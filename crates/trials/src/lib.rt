@@ -1,4 +1,6 @@
 // The worked examples hold, and fleets of fleets answer as they should.
+#![tactic(auto)]
+
 ghost use Rattle.trials.specs.Trials.{trials, AllHold};
 
 #[cfg(test)]

@@ -1,4 +1,6 @@
 // A layered walk over the board for every kind of weight, and what is made of it: the first route of least cost, and how many routes cost as little.
+#![tactic(auto)]
+
 mod allowed;
 mod arrival;
 mod chart;

@@ -1,4 +1,6 @@
 // Tests of the walk: first routes and route counts on small floors.
+#![tactic(auto)]
+
 #[cfg(test)]
 mod closed;
 #[cfg(test)]

@@ -10,23 +10,23 @@ pub loop-number-init : goal.loop-number-init
 loop-number-init c =
     let convoy = c.new-fleet.ensures.fleet in
     record {
-      rectangles = ap (λ c. all_sides c.first) convoy ∙ (ap all_sides c.new.ensures.first ∙ c.rectangles-of.ensures);
-      outlines = ap (λ c. all_rows c.second) convoy ∙ (ap all_rows c.new.ensures.second ∙ c.outlines-of.ensures);
+      rectangles = ap (λ c. all_sides c.first) convoy ∙ (ap all_sides c.new.ensures.first ∙ c.rectangles_of.ensures);
+      outlines = ap (λ c. all_rows c.second) convoy ∙ (ap all_rows c.new.ensures.second ∙ c.outlines_of.ensures);
       skirts = λ k below. absurd (omega arith);
     }
 
-pub unreachable-requires-in-default-set-skirt : goal.unreachable-requires-in-default-set-skirt
-unreachable-requires-in-default-set-skirt c =
+pub unreachable-requires-in_default-set_skirt : goal.unreachable-requires-in_default-set_skirt
+unreachable-requires-in_default-set_skirt c =
     let (below, is) = c.in-Some.ensures in
     let loop = c.loop-number in
-    never_refused c.args.job.now loop.number loop.fleet loop.invariant loop.number (values_of c.in-Some.sled) c.in-default-set-skirt.field-0 below is c.in-default-set-skirt.ensures.outcome.0
+    never_refused c.args.job.now loop.number loop.fleet loop.invariant loop.number (values_of c.in-Some.sled) c.in_default-set_skirt.field-0 below is c.in_default-set_skirt.ensures.outcome.0
 
 pub loop-number-preserved : goal.loop-number-preserved
 loop-number-preserved c =
     let (below, is) = c.in-Some.ensures in
     let six = at_most_six c.args.job.now in
     let (_, (given, same)) = c.in-Ok.ensures.outcome in
-    built_next (facts c.args.job.now).sleds c.loop-number.number c.in-Some.sled.skirt c.loop-number.fleet c.set-skirt.new.self (omega arith) (ap (λ v. v.skirt) is) given same c.loop-number.invariant
+    built_next (facts c.args.job.now).sleds c.loop-number.number c.in-Some.sled.skirt c.loop-number.fleet c.set_skirt.new.self (omega arith) (ap (λ v. v.skirt) is) given same c.loop-number.invariant
 
 pub returns : goal.returns
 returns c =

@@ -11,5 +11,5 @@ returns t c =
     let n = c.args.n in
     let fits : n < 2 ^ 64 = search rules in
     let more = last_digit n c.if-n-lt10.false fits in
-    let whole : c.digit-count.result + 1 ≡ length (decimal n) = omega (arith, more, c.digit-count.ensures.count) in
+    let whole : c.digit_count.result + 1 ≡ length (decimal n) = omega (arith, more, c.digit_count.ensures.count) in
     record { count = whole; few = omega (arith, whole, short_number n fits) }

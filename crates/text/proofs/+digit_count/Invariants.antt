@@ -1,4 +1,4 @@
 use Rattle.text.proofs.+digit_count.Given as goal
 
-abbrev pub decreases-digit-count : goal.decreases-digit-count
-decreases-digit-count l = l.n
+abbrev pub decreases-digit_count : goal.decreases-digit_count
+decreases-digit_count l = l.n

@@ -16,8 +16,8 @@ returns-then-n-lt10 t c =
       bytes = set_written c.args.out.now c.args.at _ room ∙ ap (written c.args.out.now c.args.at) (sym one);
     }
 
-pub put-digits-last-requires : goal.put-digits-last-requires
-put-digits-last-requires t c =
+pub put_digits-last-requires : goal.put_digits-last-requires
+put_digits-last-requires t c =
     let n = c.args.n in
     let fits : n < 2 ^ 64 = search rules in
     (search rules, omega (arith, last_digit n c.if-n-lt10.false fits, c.requires))
@@ -26,13 +26,13 @@ pub bounds-out-last : goal.bounds-out-last
 bounds-out-last t c =
     let n = c.args.n in
     let fits : n < 2 ^ 64 = search rules in
-    omega (arith, last_digit n c.if-n-lt10.false fits, c.requires, c.put-digits-last.ensures.end)
+    omega (arith, last_digit n c.if-n-lt10.false fits, c.requires, c.put_digits-last.ensures.end)
 
-pub overflow-add-result-2 : goal.overflow-add-result-2
-overflow-add-result-2 t c =
+pub overflow_add-result-2 : goal.overflow_add-result-2
+overflow_add-result-2 t c =
     let n = c.args.n in
     let fits : n < 2 ^ 64 = search rules in
-    let inside : c.put-digits-last.result < length c.args.out.now = omega (arith, last_digit n c.if-n-lt10.false fits, c.requires, c.put-digits-last.ensures.end) in
+    let inside : c.put_digits-last.result < length c.args.out.now = omega (arith, last_digit n c.if-n-lt10.false fits, c.requires, c.put_digits-last.ensures.end) in
     search rules
 
 pub returns : goal.returns
@@ -44,14 +44,14 @@ returns t c =
     let more = last_digit n c.if-n-lt10.false fits in
     let whole = decimal_step n c.if-n-lt10.false fits in
     let room : at ≤ length out = omega (arith, c.requires) in
-    let last = c.put-digits-last.ensures.end in
-    let front = c.put-digits-last.ensures.bytes in
-    let inside : c.put-digits-last.result < length c.put-digits-last.new.out =
+    let last = c.put_digits-last.ensures.end in
+    let front = c.put_digits-last.ensures.bytes in
+    let inside : c.put_digits-last.result < length c.put_digits-last.new.out =
     omega (arith, more, c.requires, last, ap length front, length_written out at (decimal (n / 10)) (omega (arith, more, c.requires))) in
     record {
       end = omega (arith, more, last);
       bytes =
-          set_written c.put-digits-last.new.out c.put-digits-last.result (48 + n % 10) inside
+          set_written c.put_digits-last.new.out c.put_digits-last.result (48 + n % 10) inside
           ∙ (λ i. written (front i) (last i) ((48 + n % 10) ∷ []))
           ∙ written_more out at (decimal (n / 10)) ((48 + n % 10) ∷ []) room
           ∙ ap (written out at) (sym whole);

@@ -3,4 +3,4 @@ use Rattle.std.proofs.lemmas.Slice.{overwrites}
 use Rattle.text.proofs.put_text.Goals as goal
 
 pub returns : goal.returns
-returns c = rw c.in-ok-at.was (omega arith, refl, search (rules, overwrites))
+returns c = rw c.in_ok-at.was (omega arith, refl, search (rules, overwrites))

@@ -9,18 +9,18 @@ returns-in-Some g c =
     let rs = c.args.routes.now in
     meeting_first S rs c.in-Some.pair (c.in-Some.ensures ∙ ap₂ (λ (a b : ℕ). scanned a (meets_in S rs) (b + 1)) c.sleds-sleds.ensures c.horizon-steps.ensures)
 
-pub returns-in-Some-first-pair : goal.returns-in-Some-first-pair
-returns-in-Some-first-pair g c =
+pub returns-in-Some-first_pair : goal.returns-in-Some-first_pair
+returns-in-Some-first_pair g c =
     let S = (g.P.Problem.model c.args.problem.now).setting in
     let rs = c.args.routes.now in
-    collision_first S rs (Some c.in-Some-first-pair.pair)
-    (c.in-default.ensures ∙ ap₂ (λ (a b : ℕ). scanned a (meets_in S rs) (b + 1)) c.sleds-sleds.ensures c.horizon-steps.ensures)
-    (c.in-Some-first-pair.ensures ∙ ap₂ (λ (a b : ℕ). scanned a (collides_in S rs) b) c.sleds-sleds.ensures c.horizon-steps.ensures)
+    collision_first S rs (Some c.in-Some-first_pair.pair)
+    (c.in_default.ensures ∙ ap₂ (λ (a b : ℕ). scanned a (meets_in S rs) (b + 1)) c.sleds-sleds.ensures c.horizon-steps.ensures)
+    (c.in-Some-first_pair.ensures ∙ ap₂ (λ (a b : ℕ). scanned a (collides_in S rs) b) c.sleds-sleds.ensures c.horizon-steps.ensures)
 
 pub returns-in-None : goal.returns-in-None
 returns-in-None g c =
     let S = (g.P.Problem.model c.args.problem.now).setting in
     let rs = c.args.routes.now in
     collision_first S rs None
-    (c.in-default.ensures ∙ ap₂ (λ (a b : ℕ). scanned a (meets_in S rs) (b + 1)) c.sleds-sleds.ensures c.horizon-steps.ensures)
+    (c.in_default.ensures ∙ ap₂ (λ (a b : ℕ). scanned a (meets_in S rs) (b + 1)) c.sleds-sleds.ensures c.horizon-steps.ensures)
     (c.in-None.ensures ∙ ap₂ (λ (a b : ℕ). scanned a (collides_in S rs) b) c.sleds-sleds.ensures c.horizon-steps.ensures)

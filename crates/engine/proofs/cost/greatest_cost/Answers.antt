@@ -11,10 +11,10 @@ loop-sled-preserved g c =
     let S = (g.P.Problem.model c.args.problem.now).setting in
     let rs = c.args.routes.now in
     let n = c.loop-sled.sled in
-    let costs : c.route-cost-cost.result ≡ settled (S.goal n) (get_or rs n []) (S.horizon + 1) =
-    c.route-cost-cost.ensures.cost ∙ ap₂ (λ (a b : ℕ). settled a (get_or rs n []) (b + 1)) c.goal.ensures c.horizon-horizon.ensures in
+    let costs : c.route_cost-cost.result ≡ settled (S.goal n) (get_or rs n []) (S.horizon + 1) =
+    c.route_cost-cost.ensures.cost ∙ ap₂ (λ (a b : ℕ). settled a (get_or rs n []) (b + 1)) c.goal.ensures c.horizon-horizon.ensures in
     let within : n < S.sleds = omega (arith, c.sleds-sled-end.ensures) in
-    c.max-greatest.ensures ∙ ap (λ k. max k c.route-cost-cost.result) c.loop-sled.invariant ∙ greatest_more S rs n c.route-cost-cost.result within costs
+    c.max-greatest.ensures ∙ ap (λ k. max k c.route_cost-cost.result) c.loop-sled.invariant ∙ greatest_more S rs n c.route_cost-cost.result within costs
 
 pub returns : goal.returns
 returns g c =

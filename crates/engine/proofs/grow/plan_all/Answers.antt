@@ -15,10 +15,10 @@ loop-sled-preserved g c =
     let S = (g.P.Problem.model c.args.problem.now).setting in
     let rs = c.loop-sled.routes in
     let n = c.loop-sled.sled in
-    let r = c.in-ok-route.route in
+    let r = c.in_ok-route.route in
     let few = (g.met.P.Problem.keeps c.args.problem.now).few in
     let within : n < length rs = omega (arith, c.sleds-sled-end.ensures, c.loop-sled.invariant.1) in
-    let found = c.in-ok-route.ensures [] (c.nothing-forbidden.ensures.empty []) tt in (
+    let found = c.in_ok-route.ensures [] (c.nothing-forbidden.ensures.empty []) tt in (
       λ s h. ⊎_elim
           (λ (e : s ≡ n).
           ap (λ (k : ℕ). Some (take (suc S.horizon) (get_or (set rs n r) k []))) e
@@ -28,11 +28,11 @@ loop-sled-preserved g c =
       length-set rs n r ∙ c.loop-sled.invariant.1,
     )
 
-pub returns-in-err-route : goal.returns-in-err-route
-returns-in-err-route g c =
+pub returns-in_err-route : goal.returns-in_err-route
+returns-in_err-route g c =
     let m = g.P.Problem.model c.args.problem.now in
-    ap (option_map (plan_of m.setting)) c.from-residual.ensures
-    ∙ no_routes m c.loop-sled.sled (omega (arith, c.sleds-sled-end.ensures)) (c.in-err-route.ensures [] (c.nothing-forbidden.ensures.empty []) tt)
+    ap (option_map (plan_of m.setting)) c.from_residual.ensures
+    ∙ no_routes m c.loop-sled.sled (omega (arith, c.sleds-sled-end.ensures)) (c.in_err-route.ensures [] (c.nothing-forbidden.ensures.empty []) tt)
 
 pub returns : goal.returns
 returns g c =

@@ -8,7 +8,7 @@ pub loop-first-init : goal.loop-first-init
 loop-first-init g c = none_all (at_sled c.args.sleds (g.T.PairTest.test c.args.test.now) c.args.instant) 0 (λ k l. absurd (omega arith))
 
 pub loop-first-preserved : goal.loop-first-preserved
-loop-first-preserved g c = none_more (at_sled c.args.sleds (g.T.PairTest.test c.args.test.now) c.args.instant) c.loop-first.first c.loop-first.invariant (sym c.in-default.ensures)
+loop-first-preserved g c = none_more (at_sled c.args.sleds (g.T.PairTest.test c.args.test.now) c.args.instant) c.loop-first.first c.loop-first.invariant (sym c.in_default.ensures)
 
 pub returns-in-Some : goal.returns-in-Some
 unfolding at_time

@@ -8,7 +8,7 @@ pub loop-instant-init : goal.loop-instant-init
 loop-instant-init g c = none_all (at_time c.args.sleds (g.T.PairTest.test c.args.test.now)) 0 (λ k l. absurd (omega arith))
 
 pub loop-instant-preserved : goal.loop-instant-preserved
-loop-instant-preserved g c = none_more (at_time c.args.sleds (g.T.PairTest.test c.args.test.now)) c.loop-instant.instant c.loop-instant.invariant (sym c.in-default.ensures)
+loop-instant-preserved g c = none_more (at_time c.args.sleds (g.T.PairTest.test c.args.test.now)) c.loop-instant.instant c.loop-instant.invariant (sym c.in_default.ensures)
 
 pub returns-in-Some : goal.returns-in-Some
 unfolding scanned

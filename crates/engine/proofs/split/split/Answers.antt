@@ -40,11 +40,11 @@ returns-in-Collision g c =
     let real = subst (λ (x : Conflict). conflicts.HasConflict m.setting (plan_of m.setting rs) (conflict_of x)) c.in-Collision.is c.requires in
     record {
       first = λ x e. ap (λ (k : Conflict). tree.first_constraint (search_of m) x (conflict_of k)) c.in-Collision.is
-          ∙ collision_first m ok rs x e t i j real.1 real.2 real.0 ∙ ap (record_of i) (sym c.move-of-lower.ensures);
+          ∙ collision_first m ok rs x e t i j real.1 real.2 real.0 ∙ ap (record_of i) (sym c.move_of-lower.ensures);
       second = λ x e. ap (λ (k : Conflict). tree.second_constraint (search_of m) x (conflict_of k)) c.in-Collision.is
-          ∙ collision_second m ok rs x e t i j real.1 real.2 real.0 ∙ ap (record_of j) (sym c.move-of-higher.ensures);
+          ∙ collision_second m ok rs x e t i j real.1 real.2 real.0 ∙ ap (record_of j) (sym c.move_of-higher.ensures);
       lies = (
-        (omega (arith, real.1, real.2), subst (Timely m.setting) (sym c.move-of-lower.ensures) real.0),
-        (real.2, subst (Timely m.setting) (sym c.move-of-higher.ensures) real.0),
+        (omega (arith, real.1, real.2), subst (Timely m.setting) (sym c.move_of-lower.ensures) real.0),
+        (real.2, subst (Timely m.setting) (sym c.move_of-higher.ensures) real.0),
       );
     }

@@ -59,4 +59,4 @@ pub returns : goal.returns
 returns c m xs all t h =
     let inv = c.loop-at.invariant in
     let s = c.args.sled in
-    subst (λ (bs : List constraints.Constraint). Collected c.loop-at.forbidden bs all) (ap (constraints.constraints_on s) (root_trail m c.args.nodes.now xs t c.loop-at.at inv.0 c.in-default.is) ∙ constraints_none s) (inv.3 m xs all t h)
+    subst (λ (bs : List constraints.Constraint). Collected c.loop-at.forbidden bs all) (ap (constraints.constraints_on s) (root_trail m c.args.nodes.now xs t c.loop-at.at inv.0 c.in_default.is) ∙ constraints_none s) (inv.3 m xs all t h)

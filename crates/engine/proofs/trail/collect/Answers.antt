@@ -11,4 +11,4 @@ returns c m xs t =
     let tr = (get_or xs c.args.number blank).trail in
     let all = constraints.constraints_on own.sled (sled_constraint_of own ∷ tr) in
     let whole = subst (λ (bs : List constraints.Constraint). Collected c.nothing-forbidden.result bs all) (constraints_same own.sled own tr refl) (c.nothing-forbidden.ensures.empty all) in
-    c.add-trail.ensures m xs all t (c.add.ensures.added (constraints.constraints_on own.sled tr) all whole)
+    c.add_trail.ensures m xs all t (c.add.ensures.added (constraints.constraints_on own.sled tr) all whole)

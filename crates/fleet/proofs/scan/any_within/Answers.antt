@@ -6,13 +6,13 @@ use Rattle.fleet.proofs.scan.any_within.Goals as goal
 pub loop-k-preserved : goal.loop-k-preserved
 loop-k-preserved g c =
     let fits : SFits w8 c.shifted.result = search rules in
-    below_more _ _ c.loop-k.invariant (rw (to_z-of_z w8 c.shifted.result fits, c.shifted.ensures) at (sym c.if-holds-at.ensures))
+    below_more _ _ c.loop-k.invariant (rw (to_z-of_z w8 c.shifted.result fits, c.shifted.ensures) at (sym c.if-holds_at.ensures))
 
-pub returns-then-holds-at : goal.returns-then-holds-at
-returns-then-holds-at g c =
+pub returns-then-holds_at : goal.returns-then-holds_at
+returns-then-holds_at g c =
     let z = to_z-of_z w8 c.args.z c.ranges.z in
     let fits : SFits w8 c.shifted.result = search rules in
-    let found = rw (to_z-of_z w8 c.shifted.result fits, c.shifted.ensures, z) at (sym c.if-holds-at.ensures) in
+    let found = rw (to_z-of_z w8 c.shifted.result fits, c.shifted.ensures, z) at (sym c.if-holds_at.ensures) in
     sym (within_found c.args.m c.args.z (g.T.PartTest.holds c.args.test.now) c.loop-k.k (omega arith) found)
 
 pub returns : goal.returns

@@ -6,14 +6,14 @@ use Rattle.fleet.proofs.scan.first_near.Goals as goal
 pub loop-k-preserved : goal.loop-k-preserved
 loop-k-preserved g c =
     let fits : SFits w8 c.shifted-z.result = search rules in
-    below_more _ _ c.loop-k.invariant (rw (to_z-of_z w8 c.shifted-z.result fits, c.shifted-z.ensures) at (sym c.if-holds-at.ensures))
+    below_more _ _ c.loop-k.invariant (rw (to_z-of_z w8 c.shifted-z.result fits, c.shifted-z.ensures) at (sym c.if-holds_at.ensures))
 
-pub returns-then-holds-at : goal.returns-then-holds-at
-returns-then-holds-at g c =
+pub returns-then-holds_at : goal.returns-then-holds_at
+returns-then-holds_at g c =
     let k = c.loop-k.k in
     let fits : SFits w8 c.shifted-z.result = search rules in
     let is = to_z-of_z w8 c.shifted-z.result fits ∙ c.shifted-z.ensures in
-    let hit = rw is at (sym c.if-holds-at.ensures) in
+    let hit = rw is at (sym c.if-holds_at.ensures) in
     (within_found 7 _ _ k (omega arith) hit, is ∙ near_first_is _ k (omega arith) hit c.loop-k.invariant)
 
 pub returns : goal.returns

@@ -15,7 +15,7 @@ returns g c =
     let v = position_of c.args.v in
     let a = c.args.a in
     let b = c.args.b in
-    let value = rw (c.relative.ensures.across, c.relative.ensures.down) at c.any-offset.ensures in
+    let value = rw (c.relative.ensures.across, c.relative.ensures.down) at c.any_offset.ensures in
     record {
       value = value;
       meaning = Decides-at _ _ value (collide_told first u a second v b near near');

@@ -12,7 +12,7 @@ returns g c =
     let near = g.met.F.Fleet.near f in
     let u = position_of c.args.u in
     let v = position_of c.args.v in
-    let value = c.any-offset.ensures in
+    let value = c.any_offset.ensures in
     record {
       value = value;
       meaning = Decides-at _ _ value (share_told first u second v (near c.args.i));

@@ -11,5 +11,5 @@ returns-then-has g c =
     let offsets = g.F.Fleet.offsets f c.args.sled in
     let u = position_of c.args.place in
     let on = c.if-has.ensures in
-    let value : not c.any-offset.result ≡ may_stand offsets c.args.floor.now u = grind (arith, nat_tests, on, c.any-offset.ensures) in
+    let value : not c.any_offset.result ≡ may_stand offsets c.args.floor.now u = grind (arith, nat_tests, on, c.any_offset.ensures) in
     record { value = value; meaning = Decides-at _ _ value (stand_told offsets c.args.floor.now u (g.met.F.Fleet.near f c.args.sled)) }

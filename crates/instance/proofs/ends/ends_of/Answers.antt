@@ -10,7 +10,7 @@ pub loop-number-preserved : goal.loop-number-preserved
 loop-number-preserved c =
     let at = c.loop-number.number in
     let ends = c.loop-number.ends in
-    let new = c.ends-at-start.result in
+    let new = c.ends_at-start.result in
     let job = c.args.job.now in
     let starts = λ (s n : ℕ). Numbers n (sled_of job s).start in
     let goals = λ (s n : ℕ). Numbers n (sled_of job s).goal in
@@ -23,8 +23,8 @@ loop-number-preserved c =
             subst (starts s) (sym (get_or-set_other ends.starts at s new.0 0 ne)) (before s h).0,
             subst (goals s) (sym (get_or-set_other ends.goals at s new.1 0 ne)) (before s h).1,
           )) (
-            subst (starts at) (sym (get_or-set_same ends.starts at new.0 0 (omega arith))) c.ends-at-start.ensures.0,
-            subst (goals at) (sym (get_or-set_same ends.goals at new.1 0 (omega arith))) c.ends-at-start.ensures.1,
+            subst (starts at) (sym (get_or-set_same ends.starts at new.0 0 (omega arith))) c.ends_at-start.ensures.0,
+            subst (goals at) (sym (get_or-set_same ends.goals at new.1 0 (omega arith))) c.ends_at-start.ensures.1,
           ),
     )
 

@@ -11,14 +11,14 @@ pub loop-number-preserved : goal.loop-number-preserved
 loop-number-preserved c =
     let tables = c.loop-number.pairs in
     let at = c.loop-number.number in
-    let new = c.pair-of.result in
+    let new = c.pair_of.result in
     let t = c.args.fleet.now in
     let says = λ (k : ℕ) (d : Differences). DifferencesOf (tabled_sleds t (k / 6)) (tabled_sleds t (k % 6)) d in
     let (whole, before) = c.loop-number.invariant in (
       simp length-set whole,
       below_more (λ k. (d : Differences) → k / 6 < k % 6 → k % 6 < t.count → says k (get_or (set tables at new) k d)) at
           (λ k h d lower below. let ne : k ≢ at = omega arith in subst (says k) (sym (get_or-set_other tables at k new d ne)) (before k h d lower below))
-          (λ d lower below. subst (says at) (sym (get_or-set_same tables at new d (omega arith))) (c.pair-of.ensures lower below)),
+          (λ d lower below. subst (says at) (sym (get_or-set_same tables at new d (omega arith))) (c.pair_of.ensures lower below)),
     )
 
 pub returns : goal.returns

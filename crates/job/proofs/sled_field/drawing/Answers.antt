@@ -7,4 +7,4 @@ use Rattle.job.proofs.sled_field.drawing.Goals as goal
 pub returns : goal.returns
 returns c =
     let value = c.args.value.now in
-    c.placed.ensures ∙ (λ i. placed_of (Drawing (c.copy-from-slice.ensures.after i)) (take_rest value 8 i))
+    c.placed.ensures ∙ (λ i. placed_of (Drawing (c.copy_from_slice.ensures.after i)) (take_rest value 8 i))

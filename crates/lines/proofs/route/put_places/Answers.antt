@@ -16,10 +16,10 @@ loop-instant-preserved c =
     let ps = c.args.route.now in
     let i = c.loop-instant.instant in (
       omega arith,
-      places_short ps i c.loop-instant-test.true c.loop-instant.invariant.1 c.put-place-end.ensures.short,
-      subst (λ l. Appends c.args.out.now c.args.at l c.put-place-end.new.out c.put-place-end.result) (sym (places_more ps i c.loop-instant-test.true))
-          (put_both c.args.out.now c.args.at (places_text (take i ps)) c.loop-instant.out c.loop-instant.end (place_text (get_or ps i 0)) c.put-place-end.new.out c.put-place-end.result
-          c.loop-instant.invariant.2 c.put-place-end.ensures.text),
+      places_short ps i c.loop-instant-test.true c.loop-instant.invariant.1 c.put_place-end.ensures.short,
+      subst (λ l. Appends c.args.out.now c.args.at l c.put_place-end.new.out c.put_place-end.result) (sym (places_more ps i c.loop-instant-test.true))
+          (put_both c.args.out.now c.args.at (places_text (take i ps)) c.loop-instant.out c.loop-instant.end (place_text (get_or ps i 0)) c.put_place-end.new.out c.put_place-end.result
+          c.loop-instant.invariant.2 c.put_place-end.ensures.text),
     )
 
 pub returns-after-loop-instant : goal.returns-after-loop-instant

@@ -11,4 +11,4 @@ unreachable-requires c =
     let rows = c.in-Drawing.rows in
     let drawn : is_drawn rows ≡ true = is_outline rows (search rules) (λ k below. search rules) (subst (λ shape. shape_ok shape ≡ true) c.in-Drawing.is c.requires.sound) in
     let count = count_of_outlines c.args.outlines.now in
-    grind (arith, nat_tests, count, c.in-default-add.ensures.0, drawn)
+    grind (arith, nat_tests, count, c.in_default-add.ensures.0, drawn)

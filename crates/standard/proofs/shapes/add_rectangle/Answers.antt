@@ -6,4 +6,4 @@ use Rattle.standard.proofs.shapes.add_rectangle.Goals as goal
 pub unreachable-requires : goal.unreachable-requires
 unreachable-requires c =
     let count = count_of_rectangles c.args.rectangles.now in
-    grind (arith, nat_tests, count, c.in-default-add.ensures.0, c.requires.sound)
+    grind (arith, nat_tests, count, c.in_default-add.ensures.0, c.requires.sound)

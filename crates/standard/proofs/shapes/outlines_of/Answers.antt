@@ -7,8 +7,8 @@ use Rattle.standard.proofs.Collecting.{joined_next}
 use Rattle.standard.proofs.Limits.{told_limited, room}
 use Rattle.standard.proofs.shapes.outlines_of.Goals as goal
 
-pub add-drawing-requires : goal.add-drawing-requires
-add-drawing-requires c =
+pub add_drawing-requires : goal.add_drawing-requires
+add_drawing-requires c =
     let (below, is) = c.in-Some.ensures in
     let limits = told_limited c.args.job.now c.loop-number.number (values_of c.in-Some.sled) below is in
     let free = (room c.args.job.now c.loop-number.number below).1 in

@@ -7,8 +7,8 @@ use Rattle.standard.proofs.Collecting.{joined_next}
 use Rattle.standard.proofs.Limits.{told_limited, room}
 use Rattle.standard.proofs.shapes.rectangles_of.Goals as goal
 
-pub add-rectangle-requires : goal.add-rectangle-requires
-add-rectangle-requires c =
+pub add_rectangle-requires : goal.add_rectangle-requires
+add_rectangle-requires c =
     let (below, is) = c.in-Some.ensures in
     let limits = told_limited c.args.job.now c.loop-number.number (values_of c.in-Some.sled) below is in
     let free = (room c.args.job.now c.loop-number.number below).0 in

@@ -15,5 +15,5 @@ loop-k-preserved g c =
     let n = c.args.reach in
     let x = to_z-of_z w8 c.part.result (omega arith) in
     let y = to_z-of_z w8 c.part-in-loop-k.result (omega arith) in
-    let told = rw (x, y, c.part.ensures, c.part-in-loop-k.ensures) at c.passes-at.ensures in
+    let told = rw (x, y, c.part.ensures, c.part-in-loop-k.ensures) at c.passes_at.ensures in
     rw told (fill_by_more (λ j. g.T.OffsetTest.passes c.args.test.now (pos (j % side n) -ℤ pos n) (pos (j / side n) -ℤ pos n)) c.loop-k.cells c.loop-k.k false (omega arith) c.loop-k.invariant)

@@ -4,7 +4,7 @@ use Rattle.walk.specs.Kinds.{either_both}
 use Rattle.walk.specs.Laws.{either_both_laws}
 use Rattle.walk.proofs.Filled.{row_none, row_more}
 use Rattle.walk.proofs.arrival.earliest.Goals as goal
-use Rattle.walk.proofs.arrival.earliest.Goals.{else-row-goal-via-then-row-goal+else-can-wait, else-row-goal-via-else-row-goal}
+use Rattle.walk.proofs.arrival.earliest.Goals.{else-row-goal-via-then-row-goal+else-can_wait, else-row-goal-via-else-row-goal}
 
 pub loop-instant-init : goal.loop-instant-init
 loop-instant-init g c =
@@ -15,7 +15,7 @@ loop-instant-preserved g c = (
   row_more either_both either_both_laws (g.S.Steps.step c.args.steps.now) c.args.start c.loop-instant.instant c.loop-instant.row c.advance.new.row c.loop-instant.invariant.0 c.advance.ensures.made,
   below_more _ _ c.loop-instant.invariant.1
       (elim c.else-row-goal.branch [
-        | else-row-goal-via-then-row-goal+else-can-wait w ↦ and_right _ _ (sym w.can-wait.ensures ∙ w.if-can-wait.false)
+        | else-row-goal-via-then-row-goal+else-can_wait w ↦ and_right _ _ (sym w.can_wait.ensures ∙ w.if-can_wait.false)
         | else-row-goal-via-else-row-goal w ↦ and_left _ _ (sym (c.loop-instant.invariant.0 c.args.goal (omega arith)) ∙ w.if-row-goal.false)
       ]),
   omega arith,

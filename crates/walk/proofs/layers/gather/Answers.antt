@@ -2,7 +2,7 @@ use Rattle.std.proofs.Common.{◌<◌, length, ap, ◌∙◌, ap₂, rules}
 use Rattle.std.proofs.lemmas.List.{get_or_read}
 use Rattle.walk.proofs.Sides.{sum_none, sum_past_none, sum_past, sum_all}
 use Rattle.walk.proofs.layers.gather.Goals as goal
-use Rattle.walk.proofs.layers.gather.Goals.{in-Some, in-default}
+use Rattle.walk.proofs.layers.gather.Goals.{in-Some, in_default}
 
 pub loop-towards-init : goal.loop-towards-init
 loop-towards-init g c = sum_none g.W.Weight.ops g.met.W.Weight.laws _ c.args.to c.nought-sum.result c.nought-sum.ensures
@@ -19,7 +19,7 @@ loop-towards-preserved g c =
           let term = w.times.ensures ∙ ap₂ o.mul (get_or_read _ _ _ within w.index-row-from.is o.nought) w.weight.ensures in
           rw (w.sum-is ∙ w.plus-sum.ensures ∙ ap (o.add before) term)
           (sum_past o laws _ c.args.to k before c.loop-towards.invariant _ w.in-Some.from c.loop-towards-test.true w.in-Some.ensures.side_is)
-      | in-default w ↦ rw w.sum-is (sum_past_none o laws _ c.args.to k before c.loop-towards.invariant _ c.loop-towards-test.true w.in-default.ensures.side_is)
+      | in_default w ↦ rw w.sum-is (sum_past_none o laws _ c.args.to k before c.loop-towards.invariant _ c.loop-towards-test.true w.in_default.ensures.side_is)
     ]
 
 pub returns : goal.returns

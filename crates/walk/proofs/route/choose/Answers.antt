@@ -3,7 +3,7 @@ use Rattle.std.proofs.lemmas.Bool.{and_left, and_right, and_from}
 use Rattle.walk.specs.Workings.{first}
 use Rattle.walk.proofs.Sides.{sides_all, sides_end, first_past_none, first_past, first_here}
 use Rattle.walk.proofs.route.choose.Goals as goal
-use Rattle.walk.proofs.route.choose.Goals.{in-Some+else-weight, else-weight-via-then-weight+else-leads-to, else-weight-via-else-weight, in-default}
+use Rattle.walk.proofs.route.choose.Goals.{in-Some+else-weight, else-weight-via-then-weight+else-leads-to, else-weight-via-else-weight, in_default}
 
 pub loop-towards-init : goal.loop-towards-init
 loop-towards-init g c = ap (first _) (sides_all c.args.from)
@@ -19,7 +19,7 @@ loop-towards-preserved g c =
         | else-weight-via-else-weight v ↦
             first_past _ p k _ l c.loop-towards.invariant w.in-Some.to w.in-Some.ensures.side_is (and_left _ _ (sym w.weight.ensures ∙ v.if-weight.false))
       ]
-      | in-default w ↦ first_past_none _ p k _ l c.loop-towards.invariant w.in-default.ensures.side_is
+      | in_default w ↦ first_past_none _ p k _ l c.loop-towards.invariant w.in_default.ensures.side_is
     ]
 
 pub returns-then-leads-to : goal.returns-then-leads-to

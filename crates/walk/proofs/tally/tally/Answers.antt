@@ -10,15 +10,15 @@ returns-in-Some g c =
     let a = g.S.Steps.step c.args.steps.now in
     let goal = c.args.goal in
     let found = c.in-Some.ensures in
-    let within : goal < length c.walk-rows.new.row = omega arith in
+    let within : goal < length c.walk_rows.new.row = omega arith in
     let value : Count → _ = λ x. x.value in
     record {
       counted = ap value
-          (get_or_default c.walk-rows.new.row goal c.index-row-goal.result capped.nought within
-          ∙ c.walk-rows.ensures.totals goal (omega arith)
+          (get_or_default c.walk_rows.new.row goal c.index-row-goal.result capped.nought within
+          ∙ c.walk_rows.ensures.totals goal (omega arith)
           ∙ sym (count_cheapest a goal (omega arith) c.args.horizon.steps c.args.start c.in-Some.cost found.in_time found.before found.here));
-      rest = c.walk-rows.ensures.rest;
-      spare_rest = c.walk-rows.ensures.spare_rest;
+      rest = c.walk_rows.ensures.rest;
+      spare_rest = c.walk_rows.ensures.spare_rest;
     }
 
 pub returns-in-None : goal.returns-in-None

@@ -21,12 +21,12 @@ returns-in-Places c =
 pub returns-in-Move : goal.returns-in-Move
 returns-in-Move c =
     let step : Move = record { instant = c.in-Move.instant; from = c.in-Move.from; to = c.in-Move.to } in
-    let same = c.mark-leaving.ensures.same in
+    let same = c.mark_leaving.ensures.same in
     record {
-      whole = whole_moved c.mark-leaving.new.self _ step c.mark-leaving.ensures.whole refl refl refl;
+      whole = whole_moved c.mark_leaving.new.self _ step c.mark_leaving.ensures.whole refl refl refl;
       count = omega (arith, same.1.1);
       added = λ rest all h.
-          moved c.args.self.now _ rest all c.in-Move.instant c.in-Move.from c.in-Move.to c.requires.whole.long c.requires.room same.0 c.mark-leaving.ensures.marks
+          moved c.args.self.now _ rest all c.in-Move.instant c.in-Move.from c.in-Move.to c.requires.whole.long c.requires.room same.0 c.mark_leaving.ensures.marks
           (ap₂ (λ (ms : List Move) (k : ℕ). set ms k step) same.1.0 same.1.1) (ap (λ k. k + 1) same.1.1)
           (subst (λ (b : Constraint). Collected c.args.self.now (constraint_of b ∷ rest) all) c.in-Move.is h);
     }

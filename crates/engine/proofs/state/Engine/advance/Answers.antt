@@ -3,12 +3,12 @@ use Rattle.tree.specs.Calls as calls
 use Rattle.engine.proofs.Calling.{told_ended, told_no_turns, told_made}
 use Rattle.engine.proofs.state.Engine.advance.Goals as goal
 
-pub returns-then-not-is-working : goal.returns-then-not-is-working
-returns-then-not-is-working g c =
+pub returns-then-not-is_working : goal.returns-then-not-is_working
+returns-then-not-is_working g c =
     let e = c.args.self.now in
     let m = g.P.Problem.model c.args.problem.now in
     let v = e.table.nodes.items in
-    let over = sym c.if-not-is-working.ensures in
+    let over = sym c.if-not-is_working.ensures in
     record {
       told = λ t f. (told_ended m v e.verdict t f e.limit c.args.count over).0;
       goes = λ t f. (told_ended m v e.verdict t f e.limit c.args.count over).1;
@@ -20,7 +20,7 @@ returns-then-count-eq0 g c =
     let e = c.args.self.now in
     let m = g.P.Problem.model c.args.problem.now in
     let v = e.table.nodes.items in
-    let works = sym c.if-not-is-working.ensures in
+    let works = sym c.if-not-is_working.ensures in
     record {
       told = λ t f. (told_no_turns m v e.verdict t f e.limit c.args.count works c.if-count-eq0.true).0;
       goes = λ t f. (told_no_turns m v e.verdict t f e.limit c.args.count works c.if-count-eq0.true).1;
@@ -33,7 +33,7 @@ returns g c =
     let e = c.args.self.now in
     let m = g.P.Problem.model c.args.problem.now in
     record {
-      told = λ t f. told_made m e.table.nodes.items e.verdict t f e.limit c.args.count c.make-turns.result (sym c.if-not-is-working.ensures) c.if-count-eq0.false (c.make-turns.ensures.made t f);
-      goes = c.make-turns.ensures.goes.goes;
-      same_limit = c.make-turns.ensures.goes.same_limit;
+      told = λ t f. told_made m e.table.nodes.items e.verdict t f e.limit c.args.count c.make_turns.result (sym c.if-not-is_working.ensures) c.if-count-eq0.false (c.make_turns.ensures.made t f);
+      goes = c.make_turns.ensures.goes.goes;
+      same_limit = c.make_turns.ensures.goes.same_limit;
     }

@@ -22,19 +22,19 @@ loop-made-preserved g c =
       λ t f.
           let r = inv.2 t f in
           let u = r.0 in
-          let works : tree.is_working u.verdict ≡ true = ap tree.is_working r.1.verdict_is ∙ sym c.if-is-working.ensures in
+          let works : tree.is_working u.verdict ≡ true = ap tree.is_working r.1.verdict_is ∙ sym c.if-is_working.ensures in
           (tree.turn P limit u, goes u r.1, after_more P limit n k t u c.loop-made-test.true r.2, made_more P limit n k t u c.loop-made-test.true works r.3),
     )
 
-pub returns-else-is-working : goal.returns-else-is-working
-returns-else-is-working g c =
+pub returns-else-is_working : goal.returns-else-is_working
+returns-else-is_working g c =
     let m = g.P.Problem.model c.args.problem.now in
     let P = search_of m in
     let limit = c.args.self.now.limit in
     let inv = c.loop-made.invariant in
     let n = c.args.count in
     let k = c.loop-made.made in
-    let rest : (t : tree.Tree) (f : IsAt m c.args.self.now t) → tree.is_working (inv.2 t f).0.verdict ≡ false = λ t f. ap tree.is_working (inv.2 t f).1.verdict_is ∙ sym c.if-is-working.ensures in
+    let rest : (t : tree.Tree) (f : IsAt m c.args.self.now t) → tree.is_working (inv.2 t f).0.verdict ≡ false = λ t f. ap tree.is_working (inv.2 t f).1.verdict_is ∙ sym c.if-is_working.ensures in
     record {
       made = λ t f. let r = inv.2 t f in omega (arith, r.3, made_rest P limit (n - k) r.0 (rest t f));
       goes = record {

@@ -6,14 +6,14 @@ use Rattle.engine.specs.declared.node.Verdict.TheVariants.{Working}
 use Rattle.engine.specs.Table.{Follows}
 use Rattle.engine.proofs.state.Engine.new.Goals as goal
 
-pub invariant-of-result : goal.invariant-of-result
-invariant-of-result c =
-    let empty = c.in-ok-table.ensures in
+pub invariant_of-result : goal.invariant_of-result
+invariant_of-result c =
+    let empty = c.in_ok-table.ensures in
     (omega (arith, empty.1), (omega (arith, empty.2), (omega arith, (refl, (subst AllWellFormed (sym empty.0) (λ k l. absurd (omega arith)), tt)))))
 
 pub returns : goal.returns
 returns c =
-    let empty = c.in-ok-table.ensures in
+    let empty = c.in_ok-table.ensures in
     record {
       nowhere = λ m. subst (λ (ns : List Node). Follows m ns Working (tree.tree_of [] tree.working)) (sym empty.0) (record { tracks = record { size = refl; each = λ k l. absurd (omega arith) }; verdict_is = refl });
       no_limit = refl;

@@ -17,12 +17,12 @@ returns g c =
     let limit = min c.args.limit 512 in
     let rows : c.fill.new.self.nodes.items ≡ option_to_list first = c.fill.ensures.rows ∙ ap (λ (ns : List Node). ns ++ option_to_list first) c.clear.ensures.rows in
     record {
-      root = subst (λ (ns : List Node). Follows m ns Working (tree.turns (search_of m) limit 0)) (sym rows) (root_tracks m limit first c.root-first.ensures.as-made);
+      root = subst (λ (ns : List Node). Follows m ns Working (tree.turns (search_of m) limit 0)) (sym rows) (root_tracks m limit first c.root-first.ensures.as_made);
       limit = c.min-self.ensures;
     }
 
-pub invariant-of-self : goal.invariant-of-self
-invariant-of-self g c =
+pub invariant_of-self : goal.invariant_of-self
+invariant_of-self g c =
     let first = c.root-first.result in
     let rows : c.fill.new.self.nodes.items ≡ option_to_list first = c.fill.ensures.rows ∙ ap (λ (ns : List Node). ns ++ option_to_list first) c.clear.ensures.rows in (
       omega (arith, c.fill.ensures.len, c.clear.ensures.len),

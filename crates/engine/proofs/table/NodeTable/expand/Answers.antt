@@ -30,7 +30,7 @@ returns g c =
           (sym (c.fill-2.ensures.rows ∙ ap (λ (ns : List Node). ns ++ option_to_list higher) (c.fill.ensures.rows ∙ ap (λ (ns : List Node). ns ++ option_to_list lower) c.close.ensures.rows)))
           (expand_tracks m rows xs t number l c.args.conflict c.split.result.0 c.split.result.1 lower higher
           (c.split.ensures.first (get_or xs number blank) routes) (c.split.ensures.second (get_or xs number blank) routes)
-          (λ k h. c.child_lower.ensures.as-made xs k t₂ h) (λ k h. c.child-higher.ensures.as-made xs k t₃ h));
+          (λ k h. c.child_lower.ensures.as_made xs k t₂ h) (λ k h. c.child-higher.ensures.as_made xs k t₃ h));
       len = omega (arith, c.fill.ensures.len, c.fill-2.ensures.len, c.close.ensures.len);
       capacity = c.fill-2.ensures.capacity ∙ c.fill.ensures.capacity ∙ c.close.ensures.capacity;
     }

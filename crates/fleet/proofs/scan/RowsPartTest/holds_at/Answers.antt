@@ -10,4 +10,4 @@ returns g c =
     let fits : SFits w8 s.x = omega (arith, ints, s.left, s.right) in
     let x = to_z-of_z w8 s.x fits in
     let z = to_z-of_z w8 c.args.z c.ranges.z in
-    c.any-within.ensures ∙ (λ i. some_within s.m (x i) (λ a. g.T.OffsetTest.passes s.test.now a (z i)))
+    c.any_within.ensures ∙ (λ i. some_within s.m (x i) (λ a. g.T.OffsetTest.passes s.test.now a (z i)))

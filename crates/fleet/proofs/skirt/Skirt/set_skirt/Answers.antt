@@ -12,14 +12,14 @@ returns-then-sled-count g c =
     let e = c.at.ensures in
     record { outcome = (grind (arith, nat_tests, why, n, e), refl); meaning = λ h. cut_told c.args.cells (g.F.Fleet.offsets f c.args.sled) h (g.met.F.Fleet.near f c.args.sled) }
 
-pub returns-then-any-offset : goal.returns-then-any-offset
-returns-then-any-offset g c =
+pub returns-then-any_offset : goal.returns-then-any_offset
+returns-then-any_offset g c =
     let f = c.args.self.now.inner in
-    let cut = c.if-any-offset.ensures in
+    let cut = c.if-any_offset.ensures in
     record { outcome = (grind (arith, nat_tests, cut), refl); meaning = λ h. cut_told c.args.cells (g.F.Fleet.offsets f c.args.sled) h (g.met.F.Fleet.near f c.args.sled) }
 
 pub returns : goal.returns
 returns g c =
     let f = c.args.self.now.inner in
-    let uncut = c.if-any-offset.ensures in
+    let uncut = c.if-any_offset.ensures in
     record { outcome = (grind (arith, nat_tests, uncut), (map-set _ c.args.self.now.margins c.args.sled _, refl)); meaning = λ h. cut_told c.args.cells (g.F.Fleet.offsets f c.args.sled) h (g.met.F.Fleet.near f c.args.sled) }

@@ -12,10 +12,10 @@ returns-in-Some g c =
     let job = c.args.job.now in
     let f = c.args.fleet.now in
     let few = few_sleds job in
-    let as_many = sym c.count.ensures ∙ c.if-count.false ∙ c.sled-count-count.ensures in
+    let as_many = sym c.count.ensures ∙ c.if-count.false ∙ c.sled_count-count.ensures in
     let fits : FitsJob job (g.F.Fleet.size f) = (omega (arith, some_sleds job), as_many) in
     let stand =
-    ends_told job (tabled_sleds c.of-fleet.result) c.floor-floor.result c.standings-of-standing.result c.standings-of-standing.ensures c.ends-of-ends.result c.ends-of-ends.ensures
+    ends_told job (tabled_sleds c.of-fleet.result) c.floor-floor.result c.standings_of-standing.result c.standings_of-standing.ensures c.ends_of-ends.result c.ends_of-ends.ensures
     (g.F.Fleet.offsets f) (g.met.F.Fleet.near f) c.of-fleet.ensures.sleds c.floor-floor.ensures in
     let s = c.in-Some.sled in
     let (below, stuck, before) = c.in-Some.ensures in
@@ -28,19 +28,19 @@ returns-in-Some g c =
       ),
     )
 
-pub invariant-of-result : goal.invariant-of-result
-invariant-of-result g c =
+pub invariant_of-result : goal.invariant_of-result
+invariant_of-result g c =
     let job = c.args.job.now in
     let t = c.of-fleet.result in
     let floor = c.floor-floor.result in
-    let standing = c.standings-of-standing.result in
-    let told = c.standings-of-standing.ensures in
-    let ends = c.ends-of-ends.result in
-    let of_job = c.ends-of-ends.ensures in
+    let standing = c.standings_of-standing.result in
+    let told = c.standings_of-standing.ensures in
+    let ends = c.ends_of-ends.result in
+    let of_job = c.ends_of-ends.ensures in
     let as_many = c.of-fleet.ensures.count ∙ sym c.count.ensures ∙ c.if-count.false in
-    let all = λ (s : ℕ) (h : s < t.count). c.in-default.ensures s (omega (arith, as_many)) in (
+    let all = λ (s : ℕ) (h : s < t.count). c.in_default.ensures s (omega (arith, as_many)) in (
       all_start job (tabled_sleds t) floor standing told ends of_job t.count t.few all,
-      (all_end job (tabled_sleds t) floor standing told ends of_job t.count t.few all, (told, (∣ c.pairs-of.ensures ∣₁, tt))),
+      (all_end job (tabled_sleds t) floor standing told ends of_job t.count t.few all, (told, (∣ c.pairs_of.ensures ∣₁, tt))),
     )
 
 pub returns : goal.returns
@@ -48,17 +48,17 @@ returns g c =
     let job = c.args.job.now in
     let f = c.args.fleet.now in
     let few = few_sleds job in
-    let as_many = sym c.count.ensures ∙ c.if-count.false ∙ c.sled-count-count.ensures in
+    let as_many = sym c.count.ensures ∙ c.if-count.false ∙ c.sled_count-count.ensures in
     let sleds = c.of-fleet.ensures.count ∙ as_many in
     let lasts = c.horizon_of.ensures in
-    let of_job = c.ends-of-ends.ensures in
+    let of_job = c.ends_of-ends.ensures in
     let same = c.of-fleet.ensures.sleds in
     let laid = c.floor-floor.ensures in
     let stand =
-    ends_told job (tabled_sleds c.of-fleet.result) c.floor-floor.result c.standings-of-standing.result c.standings-of-standing.ensures c.ends-of-ends.result of_job
+    ends_told job (tabled_sleds c.of-fleet.result) c.floor-floor.result c.standings_of-standing.result c.standings_of-standing.ensures c.ends_of-ends.result of_job
     (g.F.Fleet.offsets f) (g.met.F.Fleet.near f) same laid in
     record {
       fits = (omega (arith, some_sleds job), as_many);
-      stand = λ s below. (stand s (omega arith)).0 (c.in-default.ensures s (omega arith));
+      stand = λ s below. (stand s (omega arith)).0 (c.in_default.ensures s (omega arith));
       task = λ x. record { sleds = sleds x; horizon = lasts x; start = λ s. (of_job.starts s).1 x; goal = λ s. (of_job.goals s).1 x; floor = laid x; offsets = same x };
     }

@@ -24,4 +24,4 @@ returns-then-i-j c =
     let first = tabled_sleds t c.args.i in
     let second = tabled_sleds t c.args.j in
     ∥∥₁_elim c.args.self.now.paired (Bool-set _ _)
-    (λ told. c.shares-cell.ensures first second (told c.args.i c.args.j c.index-self-i.result c.if-i-j.true (omega (arith, c.sleds-count.ensures))))
+    (λ told. c.shares_cell.ensures first second (told c.args.i c.args.j c.index-self-i.result c.if-i-j.true (omega (arith, c.sleds-count.ensures))))

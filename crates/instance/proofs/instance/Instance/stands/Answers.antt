@@ -7,13 +7,13 @@ use Rattle.plans.specs.Instance.{stands_at}
 use Rattle.instance.specs.Absent.{absent, nothing_stands}
 use Rattle.instance.proofs.instance.Instance.stands.Goals as goal
 
-pub returns-then-sled-ge-MAX-SLEDS : goal.returns-then-sled-ge-MAX-SLEDS
+pub returns-then-sled-ge-MAX_SLEDS : goal.returns-then-sled-ge-MAX_SLEDS
 unfolding stands_at
-returns-then-sled-ge-MAX-SLEDS c =
+returns-then-sled-ge-MAX_SLEDS c =
     let i = c.args.self.now in
     let s = c.args.sled in
     c.has.ensures
-    ∙ ap (λ (u : Position). on_floor i.floor u.column u.row) c.from-number.ensures.place
+    ∙ ap (λ (u : Position). on_floor i.floor u.column u.row) c.from_number.ensures.place
     ∙ sym (nothing_stands (tabled_sleds i.fleet s) i.floor (position_at c.args.place) (absent i.fleet s (omega (arith, i.fleet.few))))
 
 pub returns : goal.returns

@@ -9,9 +9,9 @@ use Rattle.instance.specs.Sets.{set_by_side, split_terms, none_in}
 use Rattle.instance.specs.Terms.{tabled_terms}
 use Rattle.instance.proofs.ruled.RuledProblem.splits.Goals as goal
 
-pub returns-then-i-ge-MAX-SLEDS : goal.returns-then-i-ge-MAX-SLEDS
+pub returns-then-i-ge-MAX_SLEDS : goal.returns-then-i-ge-MAX_SLEDS
 unfolding in_set
-returns-then-i-ge-MAX-SLEDS g c =
+returns-then-i-ge-MAX_SLEDS g c =
     let p = c.args.self.now in
     let r = p.rule in
     let t = p.instance.fleet in
@@ -25,7 +25,7 @@ returns-then-i-ge-MAX-SLEDS g c =
     let u = c.args.u in
     let v = c.args.v in
     let nobody : Nothing (tabled_sleds t i) ⊎ Nothing (tabled_sleds t j) =
-    ⊎_elim (λ beyond. inl (absent t i (omega arith))) (λ (_, beyond). inr (absent t j (omega arith))) c.then-i-ge-MAX-SLEDS.either in
+    ⊎_elim (λ beyond. inl (absent t i (omega arith))) (λ (_, beyond). inr (absent t j (omega arith))) c.then-i-ge-MAX_SLEDS.either in
     let none = none_in sets (split_terms sets (rule.lower r) (rule.upper r) (rule.share r) (rule.only r)) (situation_at K i j u v) (tabled_terms t) in
     record { places = λ w h. get_or-replicate 256 w false false h ∙ sym (set_by_side K sets side i j u v w ∙ none (side_of side) (position_at w) nobody); size = refl }
 
@@ -38,8 +38,8 @@ returns g c =
     let side = c.args.side in
     let i = c.args.i in
     let j = c.args.j in
-    let u = c.from-number.ensures.place in
-    let v = c.from-number-2.ensures.place in
+    let u = c.from_number.ensures.place in
+    let v = c.from_number-2.ensures.place in
     record {
       places = λ w h.
           c.set_of.ensures.places w h

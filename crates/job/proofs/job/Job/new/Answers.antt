@@ -3,9 +3,9 @@ use Rattle.job.specs.Shapes.{outgrown, row_outgrown}
 use Rattle.job.specs.Sound.{sound_sleds}
 use Rattle.job.proofs.job.Job.new.Goals as goal
 
-pub invariant-of-result : goal.invariant-of-result
+pub invariant_of-result : goal.invariant_of-result
 unfolding outgrown row_outgrown
-invariant-of-result c =
+invariant_of-result c =
     let sleds = c.one.result in (
       lit≤ tt,
       (

@@ -3,13 +3,13 @@ use Rattle.job.specs.Shapes.{row_outgrown, outgrown}
 use Rattle.job.proofs.Scans.{some_found, some_none}
 use Rattle.job.proofs.shape.Shape.outgrows.Goals as goal
 
-pub returns-then-row-outgrows : goal.returns-then-row-outgrows
+pub returns-then-row_outgrows : goal.returns-then-row_outgrows
 unfolding outgrown
-returns-then-row-outgrows c =
-    sym (some_found (row_outgrown c.args.self c.args.skirt) 8 c.loop-dy.dy c.loop-dy-test.true (sym c.if-row-outgrows.ensures))
+returns-then-row_outgrows c =
+    sym (some_found (row_outgrown c.args.self c.args.skirt) 8 c.loop-dy.dy c.loop-dy-test.true (sym c.if-row_outgrows.ensures))
 
 pub loop-dy-preserved : goal.loop-dy-preserved
-loop-dy-preserved c = below_more _ _ c.loop-dy.invariant (sym c.if-row-outgrows.ensures)
+loop-dy-preserved c = below_more _ _ c.loop-dy.invariant (sym c.if-row_outgrows.ensures)
 
 pub returns : goal.returns
 unfolding outgrown

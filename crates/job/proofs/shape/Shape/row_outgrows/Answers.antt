@@ -4,11 +4,11 @@ use Rattle.job.specs.Shapes.{covers, past_the_edge, row_outgrown}
 use Rattle.job.proofs.Scans.{some_found, some_none}
 use Rattle.job.proofs.shape.Shape.row_outgrows.Goals as goal
 
-pub returns-then-is-past : goal.returns-then-is-past
+pub returns-then-is_past : goal.returns-then-is_past
 unfolding row_outgrown
-returns-then-is-past c =
+returns-then-is_past c =
     let test = λ (x : ℕ). covers c.args.self x c.args.dy && past_the_edge c.args.skirt x c.args.dy in
-    let hit = and_from _ _ (sym c.if-has.ensures) (sym c.if-is-past.ensures) in
+    let hit = and_from _ _ (sym c.if-has.ensures) (sym c.if-is_past.ensures) in
     sym (some_found test 8 c.loop-dx.dx c.loop-dx-test.true hit)
 
 pub returns : goal.returns

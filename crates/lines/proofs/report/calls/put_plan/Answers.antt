@@ -18,7 +18,7 @@ pub loop-sled-preserved : goal.loop-sled-preserved
 loop-sled-preserved c =
     let r = c.args.report.now in
     let n = c.loop-sled.sled in
-    let put = c.put-route-end in
+    let put = c.put_route-end in
     let more = plan_more r.routes r.last n in
     let line = route_line n (take (suc r.last) (get_or r.routes n [])) in (
       omega (arith, ap length more, length-append (plan_lines r.routes r.last n) line, put.ensures.short, c.loop-sled.invariant.0, r.short),

@@ -14,10 +14,10 @@ returns-in-Solved c =
     let head = outcome_line r.outcome r.turns in
     let plan = plan_lines r.routes r.last r.sleds in
     let all = ap (λ o. head ++ lines_after o plan) (sym c.in-Solved.is) in
-    let put = c.put-plan in
+    let put = c.put_plan in
     record {
-      text = subst (λ l. TextOf out l put.new.out put.result) all (put.ensures.text out head (c.put-outcome-at.ensures.text out [] (text_none out)));
-      short = omega (arith, ap length all, length-append head plan, put.ensures.short, c.put-outcome-at.ensures.short);
+      text = subst (λ l. TextOf out l put.new.out put.result) all (put.ensures.text out head (c.put_outcome-at.ensures.text out [] (text_none out)));
+      short = omega (arith, ap length all, length-append head plan, put.ensures.short, c.put_outcome-at.ensures.short);
     }
 
 pub returns-in-NoPlan : goal.returns-in-NoPlan
@@ -27,7 +27,7 @@ returns-in-NoPlan c =
     let out = c.args.out.now in
     let head = outcome_line r.outcome r.turns in
     let all = sym (ap (λ o. head ++ lines_after o (plan_lines r.routes r.last r.sleds)) c.in-NoPlan.is ∙ append-nil head) in
-    let put = c.put-outcome-at in
+    let put = c.put_outcome-at in
     record {
       text = subst (λ l. TextOf out l put.new.out put.result) all (put.ensures.text out [] (text_none out));
       short = omega (arith, ap length all, put.ensures.short);
@@ -40,7 +40,7 @@ returns-in-Full c =
     let out = c.args.out.now in
     let head = outcome_line r.outcome r.turns in
     let all = sym (ap (λ o. head ++ lines_after o (plan_lines r.routes r.last r.sleds)) c.in-Full.is ∙ append-nil head) in
-    let put = c.put-outcome-at in
+    let put = c.put_outcome-at in
     record {
       text = subst (λ l. TextOf out l put.new.out put.result) all (put.ensures.text out [] (text_none out));
       short = omega (arith, ap length all, put.ensures.short);

@@ -4,8 +4,8 @@ use Rattle.search.specs.States.{planning, tree_after, OpenedAt}
 use Rattle.search.proofs.Replies.{works, ended, reply_ended, reply_no_turns, reply_made}
 use Rattle.search.proofs.state.Search.advance.Goals as goal
 
-pub returns-in-default : goal.returns-in-default
-returns-in-default g c =
+pub returns-in_default : goal.returns-in_default
+returns-in_default g c =
     let s = c.args.self.now in
     let sets = g.R.SplitRule.sets in
     record {
@@ -15,7 +15,7 @@ returns-in-default g c =
             let t = tree_after sets s K limit n in
             let v = c.verdict.ensures.opened K limit n o in
             record {
-              told = (Ended, reply_ended (planning sets s K) limit c.args.count t (ended t.verdict (λ e. c.in-default.not-Working (v ∙ e))), c.at.ensures);
+              told = (Ended, reply_ended (planning sets s K) limit c.args.count t (ended t.verdict (λ e. c.in_default.not-Working (v ∙ e))), c.at.ensures);
               few = tt;
               goes = subst (λ (j : ℕ). OpenedAt sets s K limit j) (let z : n ≡ n + 0 = omega arith in z) o;
             };
@@ -48,7 +48,7 @@ pub returns : goal.returns
 returns g c =
     let s = c.args.self.now in
     let sets = g.R.SplitRule.sets in
-    let turns = c.make-turns.ensures in
+    let turns = c.make_turns.ensures in
     record {
       answer = record {
         idle = λ e. let z = c.in-Working.ensures.idle e in cc;

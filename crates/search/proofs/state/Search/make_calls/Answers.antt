@@ -24,14 +24,14 @@ loop-call-preserved g c =
     let rs = vec_items c.loop-call.answers in
     let r = c.answer-answer.result in
     let more = answers_push sets s c.loop-call.self after (take k calls) (get_or calls k (Advance 0)) rs r inv.2 c.answer-answer.ensures in (
-      omega (arith, c.push-reserved.ensures.len, inv.0),
-      omega (arith, c.push-reserved.ensures.capacity, inv.1),
-      subst (λ (xs : List Answer). AllAnswers sets s after (take (k + 1) calls) xs) (sym c.push-reserved.ensures.items)
+      omega (arith, c.push_reserved.ensures.len, inv.0),
+      omega (arith, c.push_reserved.ensures.capacity, inv.1),
+      subst (λ (xs : List Answer). AllAnswers sets s after (take (k + 1) calls) xs) (sym c.push_reserved.ensures.items)
           (subst (λ (xs : List Call). AllAnswers sets s after xs (rs ++ r ∷ [])) (sym (take_more calls k (Advance 0) c.loop-call-test.true)) more),
     )
 
-pub push-reserved-requires : goal.push-reserved-requires
-push-reserved-requires g c = omega (arith, c.loop-call.invariant.0, c.loop-call.invariant.1, c.loop-call-test.true)
+pub push_reserved-requires : goal.push_reserved-requires
+push_reserved-requires g c = omega (arith, c.loop-call.invariant.0, c.loop-call.invariant.1, c.loop-call-test.true)
 
 pub returns : goal.returns
 returns g c =

@@ -22,7 +22,7 @@ returns-in-Ok g c =
       few = λ K limit n o. omega (arith, few_turns sets s K limit n o k m (is K limit n o));
       goes = λ K limit n o.
           let h = is K limit n o in
-          opened_on sets s K limit n o k m h c.saturating-add-self.result e (made m) a (omega (arith, few_in_all sets s K limit n o k m h));
+          opened_on sets s K limit n o k m h c.saturating_add-self.result e (made m) a (omega (arith, few_in_all sets s K limit n o k m h));
       same = record { fleet_kept = refl; rule_kept = refl };
     }
 

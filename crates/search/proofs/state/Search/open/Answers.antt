@@ -15,7 +15,7 @@ returns g c =
     let job = c.args.job.now in
     let sets = g.R.SplitRule.sets s.problem.rule in
     let K = asked g.F.Fleet.offsets job s in
-    let made = c.in-ok-self.ensures in
+    let made = c.in_ok-self.ensures in
     let e = c.open.new.self in
     let limit : min c.limit.result 512 ≡ (facts job).limit = omega (arith, c.limit.ensures, job.few_nodes) in
     record {

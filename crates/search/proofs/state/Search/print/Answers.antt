@@ -13,8 +13,8 @@ returns g c =
     let s = c.args.self.now in
     let sets = g.R.SplitRule.sets in
     let before = c.args.out.now in
-    let after = c.write-report.new.out in
-    let r = c.write-report.result in
+    let after = c.write_report.new.out in
+    let r = c.write_report.result in
     record {
       idle = λ e. let z = c.in-Some.ensures.idle e in let q : ◌≡◌ {A = ℕ} 0 1 = cc in absurd (omega arith);
       opened = λ K limit n o.
@@ -23,5 +23,5 @@ returns g c =
           let few = subst (λ (x : Task). x.sleds ≤ 6) o.task (task_terms s.problem.instance).fleet.few in
           subst (λ (m : ℕ). PrintsTree before after r (setting_of K) t m t.verdict) o.turns_are
           (printed before after r P t _ (c.sleds.ensures ∙ ap (λ (x : Task). x.sleds) o.task) (c.horizon.ensures ∙ ap (λ (x : Task). x.horizon) o.task)
-          (λ k e i l. c.plan.ensures.each i (omega arith) K limit n k o e l) c.write-report.ensures t.verdict refl (turns_bounded P limit n) (c.in-Some.ensures.opened K limit n o));
+          (λ k e i l. c.plan.ensures.each i (omega arith) K limit n k o e l) c.write_report.ensures t.verdict refl (turns_bounded P limit n) (c.in-Some.ensures.opened K limit n o));
     }

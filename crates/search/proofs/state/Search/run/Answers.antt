@@ -21,14 +21,14 @@ returns-in-Ok-open g c =
     let K = asked g.F.Fleet.offsets job s in
     let limit = (facts job).limit in
     let opened = c.in-Ok-open.ensures in
-    let made = c.make-calls.ensures in
-    let end = c.make-calls.new.self in
+    let made = c.make_calls.ensures in
+    let end = c.make_calls.new.self in
     let all = made.at K limit opened.at_root in
     let kept = ap sets opened.same.rule_kept in
     record {
       was_idle = opened.was_idle;
       events = events_of (search_of K (sets rule)) limit calls;
-      told = subst (λ (x : Sets). AreAnswers (events_of (search_of K x) limit calls) (vec_items c.make-calls.result)) kept all.told;
+      told = subst (λ (x : Sets). AreAnswers (events_of (search_of K x) limit calls) (vec_items c.make_calls.result)) kept all.told;
       promise = promise_kept job (g.F.Fleet.size fleet) (g.F.Fleet.offsets fleet) (sets rule)
           (record { few = g.met.F.Fleet.few fleet; only = g.met.F.Fleet.only fleet; near = g.met.F.Fleet.near fleet; some = g.met.F.Fleet.some fleet })
           (record { holds_u = g.met.R.SplitRule.lower rule; holds_v = g.met.R.SplitRule.upper rule; all_share = g.met.R.SplitRule.share rule; only_meeting = g.met.R.SplitRule.only rule })

@@ -10,5 +10,5 @@ returns g c =
     let sets = g.R.SplitRule.sets in
     record {
       idle = λ e. cc;
-      opened = λ K limit n o. c.told-as-verdict.ensures ∙ ap verdict_of (c.verdict.ensures (model_of K (sets s.problem.rule)) (tree_after sets s K limit n) o.tree_is);
+      opened = λ K limit n o. c.told_as_verdict.ensures ∙ ap verdict_of (c.verdict.ensures (model_of K (sets s.problem.rule)) (tree_after sets s K limit n) o.tree_is);
     }

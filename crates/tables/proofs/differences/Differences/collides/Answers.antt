@@ -30,9 +30,9 @@ returns c first second made =
     let half = rw dy at c.halved.ensures.value in
     let middle = to_z-of_z w8 c.plus.result fits_middle ∙ rw (y, to_z-of_z w8 c.halved.result fits_half, half) at c.plus.ensures.value in
     let end = to_z-of_z w8 c.plus-2.result fits_end ∙ rw (y, dy) at c.plus-2.ensures.value in
-    let one = simp (x, y, dx) at c.row-has.ensures in
-    let two = simp (x, middle, dx) at c.row-has-2.ensures in
-    let three = simp (x, end, dx) at c.row-has-3.ensures in
+    let one = simp (x, y, dx) at c.row_has.ensures in
+    let two = simp (x, middle, dx) at c.row_has-2.ensures in
+    let three = simp (x, end, dx) at c.row_has-3.ensures in
     (λ i. (one i || two i) || three i)
     ∙ ap (λ (s : Offsets). swept (λ y. swept (λ x. s x y) (pos u.column -ℤ pos v.column) (across a -ℤ across b)) (pos u.row -ℤ pos v.row) (down a -ℤ down b)) made.set
     ∙ sweep_collide first u a second v b made.first_near made.second_near (rw c.relative-step.ensures.across at short_x) (rw c.relative-step.ensures.down at short_y)
