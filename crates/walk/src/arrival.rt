@@ -11,7 +11,7 @@ use grid::place::BOARD_PLACES;
 // Whether the goal may be kept at each step from an instant to the horizon.
 fn can_wait<S: Steps<bool>>(steps: &S, goal: u8, from: u8, horizon: u8) -> bool
     requires { from ≤ horizon }
-    ensures { result ≡ waits (step steps.now) goal from (horizon - from) }
+    ensures { result ≡ waits (S.step steps.now) goal from (horizon - from) }
 {
     for instant in from..horizon {
         if !steps.weight(instant, goal, goal) {
@@ -28,7 +28,7 @@ pub(crate) fn earliest<S: Steps<bool>>(
     goal: u8,
     horizon: Horizon,
 ) -> Option<u8>
-    ensures { MatchOption result (Never (step steps.now) horizon.steps start goal) (Earliest (step steps.now) horizon.steps start goal) }
+    ensures { MatchOption result (Never (S.step steps.now) horizon.steps start goal) (Earliest (S.step steps.now) horizon.steps start goal) }
 {
     let mut row = [false; BOARD_PLACES];
     let mut spare = [false; BOARD_PLACES];

@@ -14,7 +14,7 @@ use grid::place::BOARD_PLACES;
 // What one more step makes of a row at one place: the sum over the places that a step leads from.
 pub(crate) fn gather<W: Weight + Copy, S: Steps<W>>(steps: &S, instant: u8, row: &[W], to: u8) -> W
     requires { 256 ≤ length row.now }
-    ensures { result ≡ stepped ops (step steps.now) instant row.now to }
+    ensures { result ≡ stepped W.ops (S.step steps.now) instant row.now to }
 {
     let mut sum = W::nought();
     for towards in MOVES {
@@ -28,7 +28,7 @@ pub(crate) fn gather<W: Weight + Copy, S: Steps<W>>(steps: &S, instant: u8, row:
 // Writes into `out` what one more step makes of `row`.
 fn layer<W: Weight + Copy, S: Steps<W>>(steps: &S, instant: u8, row: &[W], out: &mut [W])
     requires { (256 ≤ length row.now) × (256 ≤ length out.old) }
-    ensures made { Row ops (stepped ops (step steps.now) instant row.now) out.new }
+    ensures made { Row W.ops (stepped W.ops (S.step steps.now) instant row.now) out.new }
     ensures rest { drop 256 out.new ≡ drop 256 out.old }
 {
     for to in 0..BOARD_PLACES {
@@ -44,8 +44,8 @@ pub(crate) fn advance<W: Weight + Copy, S: Steps<W>>(
     spare: &mut [W],
 )
     requires { (256 ≤ length row.old) × (256 ≤ length spare.old) }
-    ensures made { Row ops (stepped ops (step steps.now) instant row.old) row.new }
-    ensures spare_made { Row ops (stepped ops (step steps.now) instant row.old) spare.new }
+    ensures made { Row W.ops (stepped W.ops (S.step steps.now) instant row.old) row.new }
+    ensures spare_made { Row W.ops (stepped W.ops (S.step steps.now) instant row.old) spare.new }
     ensures rest { drop 256 row.new ≡ drop 256 row.old }
     ensures spare_rest { drop 256 spare.new ≡ drop 256 spare.old }
 {
@@ -62,7 +62,7 @@ pub(crate) fn walk_rows<W: Weight + Copy, S: Steps<W>>(
     spare: &mut [W],
 )
     requires { (256 ≤ length row.old) × (256 ≤ length spare.old) }
-    ensures { Walked ops (step steps.now) count start row.old spare.old row.new spare.new }
+    ensures { Walked W.ops (S.step steps.now) count start row.old spare.old row.new spare.new }
 {
     begin(start, row);
     begin(start, spare);
@@ -79,7 +79,7 @@ pub fn walk<W: Weight + Copy, S: Steps<W>>(
     row: &mut [W],
     spare: &mut [W],
 ) -> Result<(), Fault>
-    ensures { MatchResult result (λ _. Walked ops (step steps.now) count start row.old spare.old row.new spare.new) (Refused row.old spare.old row.new spare.new) }
+    ensures { MatchResult result (λ _. Walked W.ops (S.step steps.now) count start row.old spare.old row.new spare.new) (Refused row.old spare.old row.new spare.new) }
 {
     if row.len() < BOARD_PLACES || spare.len() < BOARD_PLACES {
         return Err(Cause::BufferTooShort.at(0));

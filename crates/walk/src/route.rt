@@ -27,7 +27,7 @@ pub struct Found {
 // The first place one step from `from` to which a step is allowed and that leads on to the goal.
 fn choose<S: Steps<bool>>(steps: &S, instant: u8, from: u8, leads: &[bool]) -> Option<u8>
     requires { 256 ≤ length leads.now }
-    ensures { result ≡ first (λ q. step steps.now instant from q && slice_index_or leads.now q false) (next from) }
+    ensures { result ≡ first (λ q. S.step steps.now instant from q && slice_index_or leads.now q false) (next from) }
 {
     for towards in MOVES {
         if let Some(to) = neighbour(from, towards) {
@@ -48,9 +48,9 @@ fn trace<S: Steps<bool>>(
     table: &[bool],
 ) -> [u8; MAX_INSTANTS]
     requires sizes { (cost ≤ 63) × (256 * cost + 256 ≤ length table.now) }
-    requires charted { Charted (step steps.now) goal cost table.now }
-    requires reached { total either_both (step steps.now) cost 0 start goal ≡ true }
-    ensures { Traces (step steps.now) start goal cost result }
+    requires charted { Charted (S.step steps.now) goal cost table.now }
+    requires reached { total either_both (S.step steps.now) cost 0 start goal ≡ true }
+    ensures { Traces (S.step steps.now) start goal cost result }
 {
     let mut places = [goal; MAX_INSTANTS];
     let mut at = start;
@@ -73,7 +73,7 @@ pub fn first_route<S: Steps<bool>>(
     goal: u8,
     horizon: Horizon,
 ) -> Option<Found>
-    ensures { MatchOption result (NoRoute (step steps.now) horizon.steps start goal) (FirstRoute (step steps.now) horizon.steps start goal) }
+    ensures { MatchOption result (NoRoute (S.step steps.now) horizon.steps start goal) (FirstRoute (S.step steps.now) horizon.steps start goal) }
 {
     let cost = earliest(steps, start, goal, horizon)?;
     let back = Reversed { steps, last: cost };

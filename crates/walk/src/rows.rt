@@ -8,7 +8,7 @@ use grid::place::BOARD_PLACES;
 // Makes the first 256 entries nought.
 pub(crate) fn clear<W: Weight + Copy>(row: &mut [W])
     requires { 256 ≤ length row.old }
-    ensures made { Row ops (λ q. ops.nought) row.new }
+    ensures made { Row W.ops (λ q. W.ops.nought) row.new }
     ensures rest { drop 256 row.new ≡ drop 256 row.old }
 {
     for place in 0..BOARD_PLACES {
@@ -19,7 +19,7 @@ pub(crate) fn clear<W: Weight + Copy>(row: &mut [W])
 // Makes `row` the row of the sequences of no step: one at the start, nought elsewhere.
 pub(crate) fn begin<W: Weight + Copy>(start: u8, row: &mut [W])
     requires { 256 ≤ length row.old }
-    ensures made { Row ops (λ q. (if nat_eq start q then ops.one else ops.nought)) row.new }
+    ensures made { Row W.ops (λ q. (if nat_eq start q then W.ops.one else W.ops.nought)) row.new }
     ensures rest { drop 256 row.new ≡ drop 256 row.old }
 {
     clear(row);

@@ -23,7 +23,7 @@ fn tally<S: Steps<bool>>(
     spare: &mut [Count],
 ) -> u16
     requires { (256 ≤ length row.old) × (256 ≤ length spare.old) }
-    ensures counted { result ≡ min 65535 (length (cheapest_routes (step steps.now) horizon.steps start goal)) }
+    ensures counted { result ≡ min 65535 (length (cheapest_routes (S.step steps.now) horizon.steps start goal)) }
     ensures rest { drop 256 row.new ≡ drop 256 row.old }
     ensures spare_rest { drop 256 spare.new ≡ drop 256 spare.old }
 {
@@ -46,7 +46,7 @@ pub fn count_routes<S: Steps<bool>>(
     row: &mut [Count],
     spare: &mut [Count],
 ) -> Result<u16, Fault>
-    ensures { MatchResult result (Counted (step steps.now) horizon.steps start goal row.old spare.old row.new spare.new) (Refused row.old spare.old row.new spare.new) }
+    ensures { MatchResult result (Counted (S.step steps.now) horizon.steps start goal row.old spare.old row.new spare.new) (Refused row.old spare.old row.new spare.new) }
 {
     if row.len() < BOARD_PLACES || spare.len() < BOARD_PLACES {
         return Err(Cause::BufferTooShort.at(0));

@@ -9,7 +9,13 @@ use Rattle.engine.proofs.state.Engine.new.Goals as goal
 pub invariant_of-result : goal.invariant_of-result
 invariant_of-result c =
     let empty = c.in_ok-table.ensures in
-    (omega (arith, empty.1), (omega (arith, empty.2), (omega arith, (refl, (subst AllWellFormed (sym empty.0) (λ k l. absurd (omega arith)), tt)))))
+    record {
+      few = omega (arith, empty.1);
+      room = omega (arith, empty.2);
+      high = omega arith;
+      solved = refl;
+      formed = subst AllWellFormed (sym empty.0) (λ k l. absurd (omega arith));
+    }
 
 pub returns : goal.returns
 returns c =

@@ -24,13 +24,11 @@ returns g c =
 pub invariant_of-self : goal.invariant_of-self
 invariant_of-self g c =
     let first = c.root-first.result in
-    let rows : c.fill.new.self.nodes.items ≡ option_to_list first = c.fill.ensures.rows ∙ ap (λ (ns : List Node). ns ++ option_to_list first) c.clear.ensures.rows in (
-      omega (arith, c.fill.ensures.len, c.clear.ensures.len),
-      (
-        omega (arith, c.fill.ensures.capacity, c.clear.ensures.capacity, c.args.self.now.room),
-        (
-          omega (arith, c.min-self.ensures),
-          (refl, (subst AllWellFormed (sym rows) (formed_root first c.root-first.ensures.formed), tt)),
-        ),
-      ),
-    )
+    let rows : c.fill.new.self.nodes.items ≡ option_to_list first = c.fill.ensures.rows ∙ ap (λ (ns : List Node). ns ++ option_to_list first) c.clear.ensures.rows in
+    record {
+      few = omega (arith, c.fill.ensures.len, c.clear.ensures.len);
+      room = omega (arith, c.fill.ensures.capacity, c.clear.ensures.capacity, c.args.self.now.room);
+      high = omega (arith, c.min-self.ensures);
+      solved = refl;
+      formed = subst AllWellFormed (sym rows) (formed_root first c.root-first.ensures.formed);
+    }

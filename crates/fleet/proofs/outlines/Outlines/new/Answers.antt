@@ -4,4 +4,4 @@ use Rattle.fleet.proofs.outlines.Outlines.new.Goals as goal
 
 pub invariant_of-result : goal.invariant_of-result
 unfolding is_drawn
-invariant_of-result c = (refl, tt)
+invariant_of-result c = record { drawn = refl }

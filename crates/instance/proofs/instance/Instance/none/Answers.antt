@@ -3,4 +3,9 @@ use Rattle.instance.proofs.instance.Instance.none.Goals as goal
 
 pub invariant_of-result : goal.invariant_of-result
 invariant_of-result c =
-    (λ s below. absurd (omega (arith, c.of-fleet.ensures.count, c.new.ensures)), (λ s below. absurd (omega (arith, c.of-fleet.ensures.count, c.new.ensures)), (c.standings_of.ensures, (∣ c.pairs_of.ensures ∣₁, tt))))
+    record {
+      starting = λ s below. absurd (omega (arith, c.of-fleet.ensures.count, c.new.ensures));
+      ending = λ s below. absurd (omega (arith, c.of-fleet.ensures.count, c.new.ensures));
+      stands = c.standings_of.ensures;
+      paired = ∣ c.pairs_of.ensures ∣₁;
+    }

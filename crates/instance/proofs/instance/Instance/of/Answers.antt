@@ -38,10 +38,13 @@ invariant_of-result g c =
     let ends = c.ends_of-ends.result in
     let of_job = c.ends_of-ends.ensures in
     let as_many = c.of-fleet.ensures.count ∙ sym c.count.ensures ∙ c.if-count.false in
-    let all = λ (s : ℕ) (h : s < t.count). c.in_default.ensures s (omega (arith, as_many)) in (
-      all_start job (tabled_sleds t) floor standing told ends of_job t.count t.few all,
-      (all_end job (tabled_sleds t) floor standing told ends of_job t.count t.few all, (told, (∣ c.pairs_of.ensures ∣₁, tt))),
-    )
+    let all = λ (s : ℕ) (h : s < t.count). c.in_default.ensures s (omega (arith, as_many)) in
+    record {
+      starting = all_start job (tabled_sleds t) floor standing told ends of_job t.count t.few all;
+      ending = all_end job (tabled_sleds t) floor standing told ends of_job t.count t.few all;
+      stands = told;
+      paired = ∣ c.pairs_of.ensures ∣₁;
+    }
 
 pub returns : goal.returns
 returns g c =

@@ -6,19 +6,12 @@ use Rattle.job.proofs.job.Job.new.Goals as goal
 pub invariant_of-result : goal.invariant_of-result
 unfolding outgrown row_outgrown
 invariant_of-result c =
-    let sleds = c.one.result in (
-      lit≤ tt,
-      (
-        lit≤ tt,
-        (
-          lit≤ tt,
-          (
-            lit≤ tt,
-            (
-              omega (arith, length-take sleds.count sleds.list, ap length c.one.ensures),
-              ((λ i. sound_sleds (c.in-Some.ensures.0 i) (c.in-Some.ensures.1 i) false (c.one.ensures i)), tt),
-            ),
-          ),
-        ),
-      ),
-    )
+    let sleds = c.one.result in
+    record {
+      lasting = lit≤ tt;
+      ending = lit≤ tt;
+      some_nodes = lit≤ tt;
+      few_nodes = lit≤ tt;
+      some_sled = omega (arith, length-take sleds.count sleds.list, ap length c.one.ensures);
+      sound = λ i. sound_sleds (c.in-Some.ensures.0 i) (c.in-Some.ensures.1 i) false (c.one.ensures i);
+    }

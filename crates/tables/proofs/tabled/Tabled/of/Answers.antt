@@ -22,7 +22,10 @@ invariant_of-result g c =
     let f = c.args.fleet.now in
     let all = λ (s : ℕ) (h : s < c.count.result). c.loop-sled.invariant.1 s (omega (arith, g.met.F.Fleet.few f)) in
     let some = rw (sym c.count.ensures) at (g.met.F.Fleet.some f) in
-    (omega (arith, g.met.F.Fleet.few f), (copy_some c.count.result (g.F.Fleet.offsets f) (g.met.F.Fleet.near f) c.loop-sled.tables all some, tt))
+    record {
+      few = omega (arith, g.met.F.Fleet.few f);
+      some = copy_some c.count.result (g.F.Fleet.offsets f) (g.met.F.Fleet.near f) c.loop-sled.tables all some;
+    }
 
 pub returns : goal.returns
 returns g c =
