@@ -9,14 +9,14 @@ use super::problem::Problem;
 use walk::horizon::Horizon;
 
 // The first instant from which on a route stays at its goal, up to the horizon.
-fn route_cost(route: &Route, goal: u8, horizon: Horizon) -> u8
+fn route_cost(route: &Route, goal: u8, horizon: Horizon) -> u16
     ensures cost { result ≡ settled goal route.now (horizon.steps + 1) }
     ensures low { result ≤ horizon.steps + 1 }
 {
     let mut cost = 0;
     for instant in 0..horizon.steps + 1 {
         if route[instant as usize] != goal {
-            cost = instant + 1;
+            cost = instant as u16 + 1;
         }
     }
     cost
@@ -29,8 +29,7 @@ pub(crate) fn total_cost<P: Problem>(problem: &P, routes: &[Route; MAX_SLEDS]) -
     let horizon = problem.horizon();
     let mut total = 0;
     for sled in 0..problem.sleds() {
-        let cost = route_cost(&routes[sled], problem.goal(sled), horizon);
-        total += cost as u16;
+        total += route_cost(&routes[sled], problem.goal(sled), horizon);
     }
     total
 }
@@ -43,7 +42,7 @@ pub(crate) fn greatest_cost<P: Problem>(problem: &P, routes: &[Route; MAX_SLEDS]
     let mut greatest: u8 = 0;
     for sled in 0..problem.sleds() {
         let cost = route_cost(&routes[sled], problem.goal(sled), horizon);
-        greatest = greatest.max(cost);
+        greatest = greatest.max(cost as u8);
     }
     greatest
 }

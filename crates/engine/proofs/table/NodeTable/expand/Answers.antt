@@ -15,13 +15,13 @@ returns g c =
     let m = g.P.Problem.model c.args.problem.now in
     let rows = c.args.self.now.nodes.items in
     let number = c.args.number in
-    let lower = c.child_lower.result in
+    let lower = c.child-lower.result in
     let higher = c.child-higher.result in
     let l : number < length rows = omega (arith, c.args.self.now.nodes.ok.0, c.requires.room.0) in
     let rows_are : c.fill-2.new.self.nodes.items ≡ (closed_at rows number ++ option_to_list lower) ++ option_to_list higher =
     c.fill-2.ensures.rows ∙ ap (λ (ns : List Node). ns ++ option_to_list higher) (c.fill.ensures.rows ∙ ap (λ (ns : List Node). ns ++ option_to_list lower) c.close.ensures.rows) in
     record {
-      formed = subst AllWellFormed (sym rows_are) (formed_expanded rows number lower higher l c.requires.formed c.child_lower.ensures.formed c.child-higher.ensures.formed);
+      formed = subst AllWellFormed (sym rows_are) (formed_expanded rows number lower higher l c.requires.formed c.child-lower.ensures.formed c.child-higher.ensures.formed);
       tracks = λ xs t.
           let routes = (t.each number l).routes ∙ ap (λ (ns : List Node). plan_of m.setting (get_or ns number empty).routes) (sym c.records.ensures.value) in
           let t₂ = subst (λ (ns : List Node). Tracks m ns xs) (sym c.records-2.ensures.value) t in
@@ -30,7 +30,7 @@ returns g c =
           (sym (c.fill-2.ensures.rows ∙ ap (λ (ns : List Node). ns ++ option_to_list higher) (c.fill.ensures.rows ∙ ap (λ (ns : List Node). ns ++ option_to_list lower) c.close.ensures.rows)))
           (expand_tracks m rows xs t number l c.args.conflict c.split.result.0 c.split.result.1 lower higher
           (c.split.ensures.first (get_or xs number blank) routes) (c.split.ensures.second (get_or xs number blank) routes)
-          (λ k h. c.child_lower.ensures.as_made xs k t₂ h) (λ k h. c.child-higher.ensures.as_made xs k t₃ h));
+          (λ k h. c.child-lower.ensures.as_made xs k t₂ h) (λ k h. c.child-higher.ensures.as_made xs k t₃ h));
       len = omega (arith, c.fill.ensures.len, c.fill-2.ensures.len, c.close.ensures.len);
       capacity = c.fill-2.ensures.capacity ∙ c.fill.ensures.capacity ∙ c.close.ensures.capacity;
     }
