@@ -1,5 +1,5 @@
 -- Calls one after the other.
-use Rattle.std.proofs.Common.{◌≡◌, ℕ, ◌+◌, ◌<◌, ◌≤◌, List, [], ◌∷◌, ◌++◌, length, get_or, take, drop, set, Some, None, Option, Result, sym, refl, ap, ◌∙◌, subst, ap₂, append_assoc, arith, drop-drop, drop-set-lt}
+use Rattle.std.proofs.Common.{◌≡◌, ℕ, ◌+◌, ◌<◌, List, [], ◌∷◌, ◌++◌, length, get_or, take, drop, set, Some, None, Option, Result, sym, refl, ap, ◌∙◌, subst, ap₂, append_assoc, arith, drop-drop, drop-set-lt}
 use Rattle.std.proofs.lemmas.List.{append-nil, take_more_set, drop_more, drop_all}
 use Rattle.fault.specs.declared.cause.Fault.{Fault}
 use Rattle.split.specs.Situations.{Sets}

@@ -1,9 +1,8 @@
 -- Histories keep the law of runs.
-use Rattle.std.proofs.Common.{◌≡◌, ℕ, zero, suc, ◌+◌, ◌<◌, ◌≤◌, Bool, true, false, cond, not, ◌&&◌, eqb, ltb, ◌⊎◌, List, [], ◌∷◌, ◌++◌, length, take, sym, refl, ap, ◌∙◌, subst, ap₂, inl, inr, ⊎_elim, true≢false, arith}
+use Rattle.std.proofs.Common.{◌≡◌, ℕ, zero, suc, ◌+◌, ◌<◌, ◌≤◌, Bool, true, false, cond, not, ◌&&◌, eqb, ltb, List, [], ◌∷◌, ◌++◌, length, take, sym, refl, ap, ◌∙◌, subst, ap₂, inl, inr, true≢false, arith}
 use Rattle.std.specs.List.{range_with_len}
 use Rattle.std.proofs.lemmas.List.{append-nil}
 use Rattle.std.proofs.lemmas.Bool.{and_parts, not-true, eqb-true}
-use Rattle.tree.specs.Lists.{Nth}
 use Rattle.deck.specs.declared.state.Deck.{Deck}
 use Rattle.deck.specs.declared.slip.Slip.{Slip}
 use Rattle.deck.specs.declared.slip.SlipNumbers.{SlipNumbers}
@@ -11,7 +10,7 @@ use Rattle.deck.specs.declared.call.Answer.{Answer}
 use Rattle.deck.specs.declared.call.Answer.TheVariants.{Released, Moved, Finished, Recalled, Refused, NoSlip}
 use Rattle.deck.specs.Slips.{numbers_of, slip_with}
 use Rattle.deck.specs.Decks.{ready, gone_out, slip_of, freed, fits}
-use Rattle.deck.specs.Law.{Grants, deck_after, History, given, taken, Gives, Takes, out_on, Lawful, HistoriesAreLawful}
+use Rattle.deck.specs.Law.{Grants, deck_after, History, given, taken, Gives, Takes, out_on, HistoriesAreLawful}
 
 -- a deck that is ready is free, and a slip that fits has the run that the deck is out on
 ready_free : (d : Deck) → ready d ≡ true → d.is_out ≡ false

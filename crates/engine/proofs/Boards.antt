@@ -1,5 +1,5 @@
 -- The board's steps as the theory asks for them: the places a step away, in ascending order.
-use Rattle.std.proofs.Common.{ℕ, ◌<◌, ◌⊎◌, List, [], ◌∷◌, inl, inr}
+use Rattle.std.proofs.Common.{ℕ, ◌<◌, List, [], ◌∷◌, inl, inr}
 use Rattle.grid.specs.Board as board
 use Rattle.grid.proofs.Boards.{next_places}
 use Rattle.tree.specs.Lists.{In, Ordered}

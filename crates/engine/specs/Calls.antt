@@ -1,8 +1,6 @@
 -- The engine's calls and answers, and the theory's.
 use Rattle.std.specs.Prelude.{ℕ, List, [], ◌∷◌, Ok, Err, Result}
 use Rattle.tree.specs.Calls as calls
-use Rattle.engine.specs.declared.node.Verdict as verdict
-use Rattle.engine.specs.declared.node.Verdict.TheVariants as verdicts
 use Rattle.engine.specs.declared.call.Status.{Status}
 use Rattle.engine.specs.declared.call.Status.TheVariants as statuses
 use Rattle.engine.specs.declared.call.Refusal.{Refusal}

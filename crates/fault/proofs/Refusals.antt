@@ -1,5 +1,5 @@
 -- The refusal line, piece by piece.
-use Rattle.std.proofs.Common.{ℕ, ◌+◌, ◌^◌, ◌<◌, ◌≤◌, List, ◌++◌, length, codes, decimal, arith, lit≤}
+use Rattle.std.proofs.Common.{ℕ, ◌^◌, ◌<◌, ◌≤◌, List, ◌++◌, length, codes, decimal, arith, lit≤}
 use Rattle.std.proofs.lemmas.List.{length-append}
 use Rattle.text.proofs.Written.{short_number}
 use Rattle.fault.specs.declared.cause.Fault.{Fault}

@@ -1,6 +1,6 @@
 -- Cells of a drawn outline. Assumes nothing.
-use Rattle.std.specs.Prelude.{◌≡◌, ℕ, ◌+◌, ◌-◌, ◌/◌, ◌%◌, ◌^◌, ◌<◌, ◌≤◌, Bool, true, false, not, ◌&&◌, ◌||◌, ◌⊎◌, List, ℤ, pos, Decides, ◌==◌, ◌≢◌, int_lt, slice_index, unsigned_abs, refl}
-use Rattle.std.proofs.Common.{sym, ap, ◌∙◌, ⊎_elim, inl, inr, arith}
+use Rattle.std.specs.Prelude.{◌≡◌, ℕ, ◌+◌, ◌-◌, ◌/◌, ◌%◌, ◌^◌, ◌<◌, true, false, not, ◌⊎◌, List, ℤ, pos, Decides, ◌==◌, ◌≢◌, int_lt, slice_index, unsigned_abs, refl}
+use Rattle.std.proofs.Common.{◌∙◌, ⊎_elim, inl, inr, arith}
 use Rattle.std.proofs.lemmas.Bool.{cases_eq, eq-eqb}
 use Rattle.std.proofs.lemmas.Bool.Decides.{nat_tests, Decides-below_or, Decides-not, Decides-eqb}
 use Rattle.std.proofs.lemmas.Int.{ints}

@@ -1,5 +1,5 @@
 -- Fleets that are lists of sleds.
-use Rattle.std.specs.Prelude.{ℕ, zero, suc, Bool, false, List, [], ◌∷◌, ℤ}
+use Rattle.std.specs.Prelude.{zero, suc, false, List, [], ◌∷◌}
 use Rattle.fleet.specs.Offsets.{Offsets, Sleds}
 
 -- sled s has the set of entry s; past the end of the list there is no sled

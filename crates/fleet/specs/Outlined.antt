@@ -1,5 +1,5 @@
 -- Outlines drawn in eight bytes, one a row.
-use Rattle.std.specs.Prelude.{ℕ, zero, suc, ◌-◌, ◌/◌, ◌%◌, ◌^◌, Bool, false, not, ◌&&◌, ◌||◌, List, ℤ, ◌==◌, slice_index, unsigned_abs}
+use Rattle.std.specs.Prelude.{ℕ, zero, suc, ◌-◌, ◌/◌, ◌%◌, ◌^◌, Bool, false, not, ◌&&◌, ◌||◌, List, ◌==◌, slice_index, unsigned_abs}
 use Rattle.grid.specs.Floors.{from_0_below}
 use Rattle.fleet.specs.Offsets.{Offsets}
 

@@ -1,5 +1,5 @@
 -- Standing, sharing a cell and colliding: the tests say what the words say.
-use Rattle.std.proofs.Common.{◌≡◌, ℕ, Bool, true, false, not, ◌&&◌, ◌||◌, ltb, ◌⊎◌, ℤ, pos, ◌+ℤ◌, ◌-ℤ◌, ◌≤ℤ◌, ◌<ℤ◌, Decides, sym, refl, ◌∙◌, inl, inr, ⊎_elim, arith}
+use Rattle.std.proofs.Common.{◌≡◌, true, false, not, ◌&&◌, ◌||◌, ltb, ◌⊎◌, ℤ, pos, ◌+ℤ◌, ◌-ℤ◌, ◌≤ℤ◌, ◌<ℤ◌, Decides, sym, refl, ◌∙◌, inl, inr, ⊎_elim, arith}
 use Rattle.std.proofs.lemmas.Int.{ints, by_lt_z}
 use Rattle.std.proofs.lemmas.Bool.{both_ways, cases_Bool, and_parts, and_from, or_left, or_right, not-true, not_from_false, ltb-true, lt-ltb}
 use Rattle.std.proofs.lemmas.Bool.Decides.{same_from_decides, Decides-like}
@@ -16,7 +16,7 @@ use Rattle.fleet.specs.ScansLemmas.{offset_found, offset_is, near_first, near_fi
 use Rattle.geometry.specs.declared.overlap.Moment.TheVariants.{Start, Middle, End}
 use Rattle.geometry.specs.Overlaps.{twice, small, overlap_at, overlap}
 use Rattle.geometry.specs.Stands.{is_free, cell_by, blocked, may_stand, Standing}
-use Rattle.geometry.specs.Shares.{covers, shared, share_cell, Sharing, shared_column, shared_row, FirstShared}
+use Rattle.geometry.specs.Shares.{shared, share_cell, Sharing, shared_column, shared_row, FirstShared}
 use Rattle.geometry.specs.Collisions.{struck, striking, collide, Collision, Leads}
 use Rattle.geometry.proofs.Moments.{overlap_told}
 

@@ -1,5 +1,5 @@
 -- Floors.
-use Rattle.std.specs.Prelude.{◌≡◌, ℕ, ◌+◌, ◌*◌, Bool, true, false, cond, ◌&&◌, List, take, ℤ, pos, Some, None, Option, int_le, int_lt, nat_le, nat_lt, slice_index_or, unsigned_abs}
+use Rattle.std.specs.Prelude.{◌≡◌, ℕ, ◌+◌, ◌*◌, Bool, false, cond, ◌&&◌, List, take, ℤ, pos, Some, None, Option, int_le, int_lt, nat_le, nat_lt, slice_index_or, unsigned_abs}
 use Rattle.grid.specs.declared.cell.Cell.{Cell}
 use Rattle.grid.specs.declared.cell.Cell.TheVariants.{Pillar}
 use Rattle.grid.specs.declared.floor.Floor.{Floor}

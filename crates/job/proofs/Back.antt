@@ -1,8 +1,8 @@
 -- The file of a job gives the job back.
-use Rattle.std.proofs.Common.{◌≡◌, ℕ, zero, suc, ◌+◌, ◌-◌, ◌*◌, ◌/◌, ◌%◌, ◌<◌, ◌≤◌, Bool, true, false, cond, not, ◌&&◌, ◌||◌, eqb, ltb, leb, List, [], ◌∷◌, ◌++◌, map, length, get_or, take, drop, Some, None, Ok, Err, sym, refl, ap, ◌∙◌, subst, arith}
+use Rattle.std.proofs.Common.{◌≡◌, ℕ, zero, suc, ◌+◌, ◌*◌, ◌/◌, ◌%◌, ◌<◌, ◌≤◌, Bool, true, false, not, ◌&&◌, ◌||◌, eqb, leb, List, [], ◌∷◌, ◌++◌, map, length, take, drop, Some, None, Ok, sym, refl, ap, ◌∙◌, arith}
 use Rattle.std.specs.List.{flat_map}
 use Rattle.std.proofs.lemmas.List.{take_at, drop_at, drop-drop, append_assoc, append-nil, length-append, length-map, length_push, length-take-le}
-use Rattle.std.proofs.lemmas.Bool.{and_parts, and_from, leb-true, eqb-true, eq-eqb, le-leb, lt-ltb, not-true}
+use Rattle.std.proofs.lemmas.Bool.{and_parts, and_from, eqb-true, eq-eqb, le-leb, not-true}
 use Rattle.std.proofs.lemmas.Bool.Decides.{nat_tests}
 use Rattle.grid.specs.declared.cell.Cell.{Cell}
 use Rattle.grid.specs.declared.cell.Cell.TheVariants.{Free, Pillar}
@@ -12,11 +12,11 @@ use Rattle.job.specs.declared.shape.Shape.{Shape}
 use Rattle.job.specs.declared.shape.Shape.TheVariants.{Rectangle, Drawing}
 use Rattle.job.specs.declared.sled_value.SledValue.{SledValue}
 use Rattle.job.specs.Format.{JobFacts, field, floor_field, sled_field, end_field, tail_bytes, encode}
-use Rattle.job.specs.declared.sled_field.Entry.TheVariants.{Rectangle as RectangleEntry, Drawing as DrawingEntry, End}
+use Rattle.job.specs.declared.sled_field.Entry.TheVariants.{Rectangle as RectangleEntry, Drawing as DrawingEntry}
 use Rattle.job.proofs.Entries.{after_entry}
-use Rattle.job.specs.Reading.{and_then, checked, entry_of, drawing_of, placed_of, header_of, one_byte, horizon_of, limit_of, floor_of, FloorFacts, all_cells, cell_from, cells_from, sled_of, within_limits}
+use Rattle.job.specs.Reading.{and_then, entry_of, drawing_of, placed_of, horizon_of, limit_of, floor_of, FloorFacts, all_cells, cells_from, sled_of, within_limits}
 use Rattle.job.specs.Shapes.{from_1_to, sled_ok, outgrown}
-use Rattle.job.specs.Sound.{is_drawing, sound_sled, sound_sleds, eight_rows}
+use Rattle.job.specs.Sound.{is_drawing, sound_sled, sound_sleds}
 use Rattle.job.specs.Told.{decode, sleds_at, sleds_from, sleds_of, field_size}
 use Rattle.job.proofs.Steps.{following}
 use Rattle.job.specs.declared.job.Job.{Job}

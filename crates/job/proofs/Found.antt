@@ -1,14 +1,11 @@
 -- What is known of the bytes once a reading of them succeeded.
-use Rattle.std.proofs.Common.{◌≡◌, ℕ, ◌+◌, ◌-◌, ◌*◌, ◌/◌, ◌%◌, ◌<◌, ◌≤◌, Bool, true, false, cond, not, ◌&&◌, ◌||◌, eqb, ltb, leb, List, [], ◌∷◌, ◌++◌, length, get_or, take, drop, Some, None, Ok, Err, Option, Result, sym, refl, ap, ◌∙◌, subst, arith}
+use Rattle.std.proofs.Common.{◌≡◌, ℕ, ◌+◌, ◌*◌, ◌/◌, ◌%◌, ◌<◌, ◌≤◌, Bool, true, false, cond, not, ◌&&◌, ◌||◌, eqb, ltb, leb, List, [], ◌∷◌, ◌++◌, length, get_or, take, drop, Some, None, Ok, Err, Option, Result, sym, refl, ap, ◌∙◌, subst, arith}
 use Rattle.std.specs.List.{AllByRecursion as All}
 use Rattle.std.proofs.lemmas.List.{drop_more, take-append-drop, append_assoc, length-take-le, length-append, length-drop, drop-drop}
 use Rattle.std.proofs.lemmas.Bool.{and_from, ltb-true, leb-true, eqb-true, eq-eqb}
 use Rattle.std.proofs.lemmas.Bool.Decides.{nat_tests}
 use Rattle.fault.specs.declared.cause.Cause.{Cause}
 use Rattle.fault.specs.declared.cause.Fault.{Fault}
-use Rattle.fault.specs.Causes.{fault_at}
-use Rattle.job.specs.declared.shape.Shape.{Shape}
-use Rattle.job.specs.declared.shape.Shape.TheVariants.{Rectangle, Drawing}
 use Rattle.job.specs.declared.sled_value.SledValue.{SledValue}
 use Rattle.job.specs.declared.sled_field.Entry.{Entry}
 use Rattle.job.specs.declared.sled_field.Entry.TheVariants.{Rectangle as RectangleEntry, Drawing as DrawingEntry, End}
@@ -17,9 +14,9 @@ use Rattle.job.specs.declared.value.Value.TheVariants.{Placed}
 use Rattle.job.specs.Shapes.{sled_ok, outgrown}
 use Rattle.fault.specs.declared.cause.Cause.TheVariants.{ValueOutsideLimits, OffsetTooFar}
 use Rattle.job.specs.Values.{check_value, refuse_for}
-use Rattle.job.specs.Format.{field, end_field, sled_field, tag_of, shape_bytes, tail_bytes}
-use Rattle.job.specs.Reading.{and_then, checked, header_of, due_entry, entry_of, entry_size, is_end, tag_due, placed_of, rectangle_of, drawing_of, within_limits, sled_in, sled_of}
-use Rattle.job.specs.Sound.{is_drawing, sound_sled, eight_rows}
+use Rattle.job.specs.Format.{field, end_field, sled_field, shape_bytes, tail_bytes}
+use Rattle.job.specs.Reading.{and_then, checked, header_of, due_entry, entry_of, entry_size, is_end, tag_due, rectangle_of, drawing_of, within_limits, sled_in, sled_of}
+use Rattle.job.specs.Sound.{is_drawing, sound_sled}
 use Rattle.job.specs.Told.{field_size}
 
 abbrev pub Bytes : List ℕ → Type 0

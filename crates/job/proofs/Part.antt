@@ -1,5 +1,5 @@
 -- What is known of the part after the floor, once it was read.
-use Rattle.std.proofs.Common.{◌≡◌, ℕ, zero, suc, ◌+◌, ◌-◌, ◌<◌, ◌≤◌, Bool, true, false, eqb, List, [], ◌∷◌, ◌++◌, length, drop, Some, None, Ok, Err, Option, sym, refl, ap, ◌∙◌, arith}
+use Rattle.std.proofs.Common.{◌≡◌, ℕ, zero, suc, ◌+◌, ◌<◌, Bool, true, false, eqb, List, [], ◌∷◌, ◌++◌, length, drop, Some, None, Ok, Option, sym, refl, ap, ◌∙◌, arith}
 use Rattle.std.specs.List.{flat_map}
 use Rattle.std.proofs.lemmas.List.{append-nil, append_assoc, drop_all}
 use Rattle.std.proofs.lemmas.Bool.{eqb-true, and_from}
@@ -10,7 +10,7 @@ use Rattle.job.specs.Reading.{checked, sled_of}
 use Rattle.job.specs.Sound.{is_drawing, sound_sleds}
 use Rattle.job.specs.Told.{field_size, sleds_from, sleds_of}
 use Rattle.job.proofs.Steps.{following}
-use Rattle.job.proofs.Found.{and_then_ok, checked_ok, Found, found, Ended, ended}
+use Rattle.job.proofs.Found.{and_then_ok, checked_ok, Found, found, ended}
 
 -- the sleds of the part come after those so far, and its bytes are theirs and the end's
 pub record Part (columns rows : ℕ) (drawn : Bool) (sofar : List SledValue) (rest : List ℕ) (sleds : List SledValue) : Type 0 where

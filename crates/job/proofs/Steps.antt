@@ -1,5 +1,5 @@
 -- One sled after another.
-use Rattle.std.proofs.Common.{◌≡◌, ℕ, suc, ◌+◌, ◌-◌, ◌<◌, ◌≤◌, Bool, eqb, List, [], ◌∷◌, ◌++◌, length, drop, Some, None, Ok, Err, Option, Result, sym, refl, ap, ◌∙◌, arith, lit≤}
+use Rattle.std.proofs.Common.{◌≡◌, ℕ, suc, ◌+◌, ◌-◌, ◌≤◌, Bool, eqb, List, [], ◌∷◌, ◌++◌, length, drop, Some, None, Ok, Err, Option, Result, ap, ◌∙◌, arith, lit≤}
 use Rattle.std.proofs.lemmas.List.{length_push}
 use Rattle.fault.specs.declared.cause.Cause.TheVariants.{BytesAfterEnd}
 use Rattle.fault.specs.declared.cause.Fault.{Fault}

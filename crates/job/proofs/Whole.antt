@@ -1,5 +1,5 @@
 -- The whole of a job file, part by part.
-use Rattle.std.proofs.Common.{◌≡◌, ℕ, false, List, [], drop, Ok, Err, Result, sym, refl, ap, ◌∙◌}
+use Rattle.std.proofs.Common.{◌≡◌, ℕ, false, List, [], drop, Ok, Result, ap, ◌∙◌}
 use Rattle.fault.specs.declared.cause.Fault.{Fault}
 use Rattle.job.specs.declared.sled_value.SledValue.{SledValue}
 use Rattle.job.specs.Format.{JobFacts}

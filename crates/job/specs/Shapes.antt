@@ -1,5 +1,5 @@
 -- Shapes and sleds, and their limits.
-use Rattle.std.specs.Prelude.{ℕ, zero, suc, ◌+◌, ◌-◌, ◌/◌, ◌%◌, ◌^◌, Bool, true, false, not, ◌&&◌, ◌||◌, List, [], ◌∷◌, ◌==◌, nat_le, nat_lt, slice_index}
+use Rattle.std.specs.Prelude.{ℕ, zero, suc, ◌+◌, ◌-◌, ◌/◌, ◌%◌, ◌^◌, Bool, false, not, ◌&&◌, ◌||◌, List, [], ◌∷◌, ◌==◌, nat_le, nat_lt, slice_index}
 use Rattle.job.specs.declared.shape.Shape.{Shape}
 use Rattle.job.specs.declared.shape.Shape.TheVariants.{Rectangle, Drawing}
 use Rattle.job.specs.declared.sled_value.SledValue.{SledValue}

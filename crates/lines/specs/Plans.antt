@@ -1,5 +1,5 @@
 -- The lines that tell how a search ended.
-use Rattle.std.specs.Prelude.{ℕ, ◌/◌, ◌%◌, List, [], ◌∷◌, ◌++◌, codes, decimal, Option}
+use Rattle.std.specs.Prelude.{ℕ, ◌/◌, ◌%◌, List, ◌++◌, codes, decimal, Option}
 use Rattle.std.specs.List.{flat_map}
 use Rattle.text.specs.Texts.{TextOf}
 use Rattle.lines.specs.declared.outcome.Outcome.{Outcome}

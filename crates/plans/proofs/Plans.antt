@@ -11,7 +11,7 @@ use Rattle.tree.specs.Lists.{greatest}
 use Rattle.tree.specs.Routes.{at, cost}
 use Rattle.tree.specs.Plans as tree
 use Rattle.plans.specs.Tasks.{Task, TaskTerms}
-use Rattle.plans.specs.Plans.{Plan, Route, Sums, Lasts, Collide, CollisionFree}
+use Rattle.plans.specs.Plans.{Plan, Route, Sums, Collide, CollisionFree}
 use Rattle.plans.specs.Instance.{setting_of}
 use Rattle.plans.specs.Theorems.{PlansHaveOneSum, numbered, placed, PlansAreNumbered, PlansArePlaced, MakespansCarryOver, BoundsCarryOver, LeastSumsCarryOver, NoPlanCarriesOver}
 use Rattle.tree.proofs.Lists.{below_suc}

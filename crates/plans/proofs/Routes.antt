@@ -1,5 +1,5 @@
 -- Routes by positions and by place numbers, and what they cost.
-use Rattle.std.proofs.Common.{◌≡◌, ℕ, zero, suc, ◌-◌, ◌<◌, ◌≤◌, true, ◌⊎◌, List, length, sym, ◌∙◌, subst, ⊎_elim, le_antisymm, arith}
+use Rattle.std.proofs.Common.{◌≡◌, ℕ, zero, suc, ◌<◌, ◌≤◌, true, List, length, sym, ◌∙◌, subst, ⊎_elim, le_antisymm, arith}
 use Rattle.std.proofs.lemmas.Bool.{cases_lt}
 use Rattle.grid.specs.Places.{position_at}
 use Rattle.geometry.specs.Stands.{Standing}

@@ -1,5 +1,5 @@
 -- Positions and place numbers, and the steps between them.
-use Rattle.std.proofs.Common.{◌≡◌, ℕ, ◌<◌, true, eqb, leb, ◌⊎◌, List, [], ◌∷◌, Decides, sym, refl, ◌∙◌, inl, inr, ⊎_elim, arith}
+use Rattle.std.proofs.Common.{◌≡◌, ℕ, ◌<◌, true, eqb, leb, List, [], ◌∷◌, Decides, sym, refl, ◌∙◌, inl, inr, ⊎_elim, arith}
 use Rattle.std.proofs.lemmas.Bool.{eqb-true, eq-eqb, or_cases, or_left, or_right, and_from, le-leb, and_parts, leb-true, both_ways}
 use Rattle.std.proofs.lemmas.Bool.Decides.{Decides-like}
 use Rattle.grid.specs.declared.floor.Floor.{Floor}

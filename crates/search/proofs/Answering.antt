@@ -3,7 +3,7 @@ use Rattle.std.proofs.Common.{◌≡◌, ℕ, ◌+◌, Ok, Err, Option, Result, 
 use Rattle.fault.specs.declared.cause.Fault.{Fault}
 use Rattle.grid.specs.declared.place.Place.{Place}
 use Rattle.split.specs.Situations.{Sets}
-use Rattle.tree.specs.Tree.{Tree, bound}
+use Rattle.tree.specs.Tree.{bound}
 use Rattle.tree.specs.Calls as tree
 use Rattle.tree.specs.Law.{if_made}
 use Rattle.plans.specs.Tasks.{Task}
@@ -12,8 +12,8 @@ use Rattle.search.specs.declared.verdict.Verdict.{Verdict}
 use Rattle.search.specs.declared.call.Answer.{Answer}
 use Rattle.search.specs.declared.call.Answer.TheVariants.{Advanced, Bounded, Judged, Placed}
 use Rattle.search.specs.declared.state.Search.{Search}
-use Rattle.search.specs.Words.{verdict_of, at_place, Tells}
-use Rattle.search.specs.States.{planning, tree_after, OpenedAt, ByState, SameParts}
+use Rattle.search.specs.Words.{Tells}
+use Rattle.search.specs.States.{tree_after, OpenedAt, SameParts}
 use Rattle.search.specs.Telling.{TellsBound, TellsVerdict, TellsPlace}
 use Rattle.search.specs.Advancing.{AdvancesAt, Advances}
 use Rattle.search.specs.Workings.{AnswersAt, Answers}

@@ -1,5 +1,5 @@
 -- A search that goes on by some turns.
-use Rattle.std.proofs.Common.{◌≡◌, ℕ, suc, ◌+◌, ◌≤◌, sym, ap, ◌∙◌, subst, arith}
+use Rattle.std.proofs.Common.{◌≡◌, ℕ, suc, ◌+◌, ◌≤◌, ◌∙◌, subst, arith}
 use Rattle.split.specs.Situations.{Sets}
 use Rattle.tree.specs.Tree.{Tree, turns_made}
 use Rattle.tree.specs.Calls as calls

@@ -1,10 +1,9 @@
 -- How long the plan of a solved tree lasts.
-use Rattle.std.proofs.Common.{◌≡◌, ℕ, List, Some, None, Ok, Err, Option, Result, sym, refl, ◌∙◌, subst}
+use Rattle.std.proofs.Common.{◌≡◌, ℕ, List, Some, None, Ok, Err, Option, sym, refl, subst}
 use Rattle.fault.specs.declared.cause.Cause.TheVariants.{NotSolved}
-use Rattle.fault.specs.declared.cause.Fault.{Fault}
 use Rattle.fault.specs.Causes.{fault_at}
 use Rattle.split.specs.Situations.{Sets}
-use Rattle.tree.specs.Plans.{Plan, IsPlan, makespan}
+use Rattle.tree.specs.Plans.{IsPlan}
 use Rattle.tree.specs.Tree.{Node, Tree, Verdict, working, solved, none, full, turns}
 use Rattle.tree.specs.Calls.{routes_at}
 use Rattle.tree.proofs.Choice.{planner_keeps_terms}

@@ -2,7 +2,7 @@
 use Rattle.std.proofs.Common.{◌≡◌, ℕ, zero, suc, Bool, true, false, sym, refl, ap, ◌∙◌, arith}
 use Rattle.tree.specs.Search.{Search}
 use Rattle.tree.specs.Tree as tree
-use Rattle.tree.specs.Calls.{Answer, made, refused, Refusal, Ended, NoTurns, status_of, made_by, advance, advanced, reply}
+use Rattle.tree.specs.Calls.{made, refused, Refusal, Ended, NoTurns, status_of, made_by, advance, advanced, reply}
 use Rattle.engine.proofs.Advancing.{made_rest}
 use Rattle.search.specs.declared.verdict.Verdict.TheVariants.{Working}
 use Rattle.search.specs.Words.{verdict_of}

@@ -9,7 +9,7 @@ use Rattle.tree.specs.Calls as tree
 use Rattle.tree.specs.Law.{granted, count}
 use Rattle.job.specs.declared.job.Job.{Job}
 use Rattle.job.specs.Facts.{facts}
-use Rattle.plans.specs.Tasks.{Task, task_of}
+use Rattle.plans.specs.Tasks.{task_of}
 use Rattle.plans.specs.Instance.{search_of, SplitTerms}
 use Rattle.plans.specs.Promise.{Promise}
 use Rattle.plans.proofs.Terms.{jobs_are_tasks}
@@ -19,8 +19,8 @@ use Rattle.search.specs.declared.call.Call.{Call}
 use Rattle.search.specs.declared.call.Answer.{Answer}
 use Rattle.search.specs.declared.state.Search.{Search}
 use Rattle.search.specs.Words.{call_of, IsAnswer, AreAnswers}
-use Rattle.search.specs.States.{planning, OpenedAt, SameParts}
-use Rattle.search.specs.Workings.{events_of, AnswersAt, Answers, AllAnswers}
+use Rattle.search.specs.States.{planning, OpenedAt}
+use Rattle.search.specs.Workings.{events_of, Answers, AllAnswers}
 use Rattle.search.proofs.Turns.{event_at, run_push, granted_push}
 
 are_push : (es : List tree.Event) (rs : List Answer) (e : tree.Event) (r : Answer) → AreAnswers es rs → IsAnswer e.answer r → AreAnswers (es ++ e ∷ []) (rs ++ r ∷ [])

@@ -5,7 +5,7 @@ use Rattle.std.proofs.lemmas.Int.{ints}
 use Rattle.std.proofs.lemmas.Bool.{and_parts, and_from, ltb-true, lt-ltb}
 use Rattle.grid.specs.declared.position.Position.{Position}
 use Rattle.fleet.specs.Offsets.{Offsets, NearSet, AllNear}
-use Rattle.geometry.specs.Shares.{covers, share_cell, Sharing, shared_column, shared_row, FirstShared}
+use Rattle.geometry.specs.Shares.{covers, share_cell, shared_column, shared_row, FirstShared}
 use Rattle.geometry.proofs.Meetings.{share_told, first_shared_is}
 use Rattle.split.specs.declared.pair.Side.{Side}
 use Rattle.split.specs.Situations.{Situation, on_board, meet}

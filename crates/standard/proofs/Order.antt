@@ -1,5 +1,5 @@
 -- The rectangles and then the drawings of a job are its shapes in their order.
-use Rattle.std.proofs.Common.{◌≡◌, ℕ, Bool, true, false, not, ◌&&◌, ◌||◌, List, [], ◌∷◌, ◌++◌, map, refl, ap}
+use Rattle.std.proofs.Common.{◌≡◌, ℕ, Bool, true, not, ◌&&◌, ◌||◌, List, [], ◌∷◌, ◌++◌, map, refl, ap}
 use Rattle.std.proofs.lemmas.Bool.{and_parts, false≢true}
 use Rattle.job.specs.declared.shape.Shape.{Shape}
 use Rattle.job.specs.declared.shape.Shape.TheVariants.{Rectangle, Drawing}

@@ -1,18 +1,16 @@
 -- Sharing and colliding by the differences of two sleds.
-use Rattle.std.proofs.Common.{◌≡◌, ℕ, zero, suc, ◌+◌, ◌≤◌, Bool, true, false, ◌&&◌, ◌||◌, ◌⊎◌, ℤ, pos, negsuc, ◌+ℤ◌, ◌-ℤ◌, ◌*ℤ◌, neg_ℤ, nat_abs, ◌≤ℤ◌, ◌<ℤ◌, Decides, sym, refl, ap, ◌∙◌, inl, inr, ⊎_elim, arith, lit≤}
-use lib.Signed.{lt_z}
+use Rattle.std.proofs.Common.{◌≡◌, zero, suc, Bool, true, ◌&&◌, ◌||◌, ◌⊎◌, ℤ, pos, negsuc, ◌+ℤ◌, ◌-ℤ◌, Decides, sym, ◌∙◌, inl, inr, ⊎_elim, arith}
 use Rattle.std.proofs.lemmas.Int.{ints, by_lt_z}
 use Rattle.std.proofs.lemmas.Bool.{and_parts, and_from, or_cases, or_left, or_right}
 use Rattle.std.proofs.lemmas.Bool.Decides.{same_from_decides}
 use Rattle.grid.specs.declared.moves.Move.{Move}
-use Rattle.grid.specs.declared.moves.Move.TheVariants.{North, West, Wait, East, South}
 use Rattle.grid.specs.declared.position.Position.{Position}
 use Rattle.grid.specs.Moves.{across, down}
-use Rattle.fleet.specs.Offsets.{Offsets, Near, NearSet}
+use Rattle.fleet.specs.Offsets.{Offsets, NearSet}
 use Rattle.fleet.specs.Scans.{some_offset, within}
 use Rattle.fleet.specs.ScansLemmas.{offset_found, offset_is}
 use Rattle.geometry.specs.Overlaps.{Short}
-use Rattle.geometry.specs.Shares.{share_cell, shared}
+use Rattle.geometry.specs.Shares.{share_cell}
 use Rattle.geometry.specs.Collisions.{collide}
 use Rattle.geometry.proofs.Meetings.{Hit, hit_told}
 use Rattle.geometry.proofs.Moments.{OnWay, way_overlap, overlap_way, two_cells}

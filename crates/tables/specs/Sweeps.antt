@@ -1,5 +1,5 @@
 -- The cells that one cell passes over in a step of at most two.
-use Rattle.std.specs.Prelude.{ℕ, zero, suc, Bool, ◌||◌, ℤ, pos, negsuc, ◌+ℤ◌}
+use Rattle.std.specs.Prelude.{zero, suc, Bool, ◌||◌, ℤ, pos, negsuc, ◌+ℤ◌}
 
 -- half a step, towards 0
 abbrev pub half : ℤ → ℤ

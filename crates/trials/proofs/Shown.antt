@@ -2,7 +2,6 @@
 use Rattle.std.proofs.Common.{◌≡◌, ℕ, Bool, true, false, ◌&&◌, [], ◌∷◌, ℤ, pos, Some, None, filter, refl, ap, ◌∙◌, arith}
 use Rattle.std.specs.List.{range_with_len}
 use Rattle.std.proofs.lemmas.Int.{ints}
-use Rattle.std.proofs.lemmas.Bool.{both_ways}
 use Rattle.std.proofs.lemmas.Bool.Decides.{nat_tests, not_from_Decides}
 use Rattle.grid.specs.declared.moves.Move.{Move}
 use Rattle.grid.specs.declared.moves.Move.TheVariants.{West, East, South}
@@ -11,13 +10,12 @@ use Rattle.grid.specs.Places.{position_at}
 use Rattle.fleet.specs.Offsets.{NearSet}
 use Rattle.fleet.specs.RectangleFleets.{rectangle}
 use Rattle.fleet.specs.Scans.{some_within, in_row, first_near, first_row}
-use Rattle.geometry.specs.Shares.{covers, share_cell, shared_column, shared_row, shared}
+use Rattle.geometry.specs.Shares.{covers, shared_column, shared_row, shared}
 use Rattle.geometry.specs.Collisions.{Collision, collide}
 use Rattle.geometry.proofs.Meetings.{collide_told}
 use Rattle.split.specs.declared.pair.Side.{Side}
 use Rattle.split.specs.declared.pair.Side.TheVariants.{Lower, Upper}
 use Rattle.split.specs.Situations.{Situation, on_board, meet}
-use Rattle.split.specs.Rules.{shared_cell_sets}
 use Rattle.grid.specs.Board.{next}
 use Rattle.walk.proofs.Shown.{corner_holds, too_soon_holds, just_in_time_holds}
 use Rattle.tree.specs.Lists.{joined, first_below, all_below, total, gather, least}

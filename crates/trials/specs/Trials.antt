@@ -8,7 +8,7 @@ use Rattle.fault.specs.Causes.{fault_at}
 use Rattle.grid.specs.declared.cell.Cell.TheVariants.{Free}
 use Rattle.grid.specs.declared.floor.Floor.{Floor}
 use Rattle.grid.specs.declared.moves.Move.{Move}
-use Rattle.grid.specs.declared.moves.Move.TheVariants.{North, West, Wait, East, South}
+use Rattle.grid.specs.declared.moves.Move.TheVariants.{West, East, South}
 use Rattle.grid.specs.declared.position.Position.{Position}
 use Rattle.grid.specs.Places.{number_of, position_at}
 use Rattle.fleet.specs.Offsets.{Offsets}

@@ -1,5 +1,5 @@
 -- The weight of the sequences that reach a goal and keep it, for every kind of weight.
-use Rattle.std.proofs.Common.{◌≡◌, ℕ, zero, suc, ◌+◌, ◌<◌, Bool, true, false, cond, ◌&&◌, eqb, List, [], ◌∷◌, map, drop, sym, refl, ap, ◌∙◌, ap₂, ⊎_elim, add-zero, arith}
+use Rattle.std.proofs.Common.{◌≡◌, ℕ, zero, suc, ◌+◌, ◌<◌, Bool, true, false, cond, ◌&&◌, eqb, List, ◌∷◌, map, drop, sym, refl, ap, ◌∙◌, ap₂, ⊎_elim, add-zero, arith}
 use Rattle.std.proofs.lemmas.Bool.{cases_Bool, eqb-true}
 use Rattle.grid.specs.Board.{next}
 use Rattle.walk.specs.Semiring.{Ops, Laws, summed}

@@ -1,4 +1,4 @@
-use Rattle.std.proofs.Common.{◌≡◌, ℕ, List, [], ◌++◌, Some, codes, decimal, subst, rules}
+use Rattle.std.proofs.Common.{◌≡◌, [], ◌++◌, Some, codes, decimal, subst, rules}
 use Rattle.text.specs.Texts.{TextOf}
 use Rattle.text.proofs.Written.{text_none, text-more}
 use Rattle.fault.specs.Causes.{number_of, layer_of, layer_number}

@@ -1,4 +1,4 @@
-use Rattle.std.proofs.Common.{pos, ◌+ℤ◌, sym, ap, ◌∙◌, arith, w8, SFits}
+use Rattle.std.proofs.Common.{pos, ◌+ℤ◌, ap, ◌∙◌, arith, w8, SFits}
 use Rattle.std.proofs.lemmas.Int.{to_z-of_z, ints}
 use Rattle.grid.specs.Places.{position_of}
 use Rattle.geometry.proofs.Meetings.{first_shared_is}

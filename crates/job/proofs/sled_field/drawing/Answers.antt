@@ -1,4 +1,4 @@
-use Rattle.std.proofs.Common.{take, drop, ap, ◌∙◌}
+use Rattle.std.proofs.Common.{◌∙◌}
 use Rattle.std.proofs.lemmas.List.{take_rest}
 use Rattle.job.specs.declared.shape.Shape.TheVariants.{Drawing}
 use Rattle.job.specs.Reading.{placed_of}

@@ -1,13 +1,12 @@
-use Rattle.std.proofs.Common.{◌≡◌, ℕ, ◌+◌, ◌-◌, ◌<◌, ◌≤◌, false, eqb, List, [], ◌∷◌, ◌++◌, length, take, drop, Some, None, Ok, Err, sym, refl, ap, ◌∙◌, arith, length-drop, length-take, rules}
+use Rattle.std.proofs.Common.{◌≡◌, ◌+◌, ◌≤◌, false, eqb, [], length, drop, Some, Ok, Err, sym, ap, ◌∙◌, arith, length-drop, length-take}
 use Rattle.std.proofs.lemmas.List.{take_rest, drop-drop}
 use Rattle.std.proofs.lemmas.Result.{err_from_is_err_and}
 use Rattle.std.proofs.lemmas.Bool.{cond-true, cond-false, eq-eqb, ne_eqb}
 use Rattle.fault.specs.declared.cause.Cause.TheVariants.{BytesAfterEnd}
-use Rattle.job.specs.declared.sled_value.SledValue.{SledValue}
 use Rattle.job.specs.Jobs.{sleds_told}
-use Rattle.job.specs.Reading.{sled_of, shown, checked}
+use Rattle.job.specs.Reading.{sled_of, checked}
 use Rattle.job.specs.Told.{sleds_of, field_size}
-use Rattle.job.proofs.Found.{Found, found, Ended, ended}
+use Rattle.job.proofs.Found.{found}
 use Rattle.job.proofs.Steps.{step_sled, step_end, step_fault, some_size}
 use Rattle.job.proofs.sleds_part.read_sleds.Goals as goal
 use Rattle.job.proofs.sleds_part.read_sleds.Goals.{After-read_sled, In-Some, In_default}

@@ -1,4 +1,4 @@
-use Rattle.std.proofs.Common.{[], ◌∷◌, ◌++◌, codes, decimal}
+use Rattle.std.proofs.Common.{◌++◌, codes, decimal}
 use Rattle.lines.specs.Plans.{ending_of}
 use Rattle.lines.proofs.Appending.{put_one, put_both}
 use Rattle.lines.proofs.outcome.put_ending.Goals as goal

@@ -1,4 +1,4 @@
-use Rattle.std.proofs.Common.{◌^◌, ◌<◌, ◌≤◌, length, sym, subst, rules}
+use Rattle.std.proofs.Common.{◌≤◌, length, sym, subst, rules}
 use Rattle.lines.specs.Plans.{Appends, outcome_line}
 use Rattle.lines.proofs.Appending.{solved_short, none_short, full_short}
 use Rattle.lines.proofs.outcome.put_outcome.Goals as goal

@@ -1,4 +1,4 @@
-use Rattle.std.proofs.Common.{[], ◌∷◌, ◌++◌, codes, decimal, subst, rules}
+use Rattle.std.proofs.Common.{◌++◌, codes, decimal, subst, rules}
 use Rattle.lines.specs.Plans.{Appends, place_text}
 use Rattle.lines.proofs.Appending.{put_one, put_both, place_short}
 use Rattle.lines.proofs.route.put_place.Goals as goal

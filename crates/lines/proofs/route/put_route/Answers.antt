@@ -1,4 +1,4 @@
-use Rattle.std.proofs.Common.{suc, [], ◌∷◌, ◌++◌, take, codes, decimal, rules}
+use Rattle.std.proofs.Common.{suc, ◌++◌, take, codes, decimal, rules}
 use Rattle.lines.specs.Plans.{route_line}
 use Rattle.lines.specs.Plans.{places_text}
 use Rattle.lines.proofs.Appending.{put_one, put_both, line_short}

@@ -1,4 +1,4 @@
-use Rattle.std.proofs.Common.{◌≡◌, ℕ, ◌/◌, ◌%◌, ◌<◌, false, get_or, set, pos, ◌-ℤ◌, subst, arith, w8}
+use Rattle.std.proofs.Common.{◌/◌, ◌%◌, false, pos, ◌-ℤ◌, arith, w8}
 use Rattle.std.proofs.lemmas.Nat.{div_below}
 use Rattle.std.proofs.lemmas.List.Edits.{fill_by_more}
 use Rattle.std.proofs.lemmas.Int.{to_z-of_z}

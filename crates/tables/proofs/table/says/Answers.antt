@@ -1,4 +1,4 @@
-use Rattle.std.proofs.Common.{◌≡◌, ◌+◌, ◌*◌, true, false, ◌&&◌, get_or, sym, ap, ◌∙◌, arith, w8}
+use Rattle.std.proofs.Common.{◌+◌, ◌*◌, false, ◌&&◌, get_or, sym, ap, ◌∙◌, arith, w8}
 use Rattle.std.proofs.lemmas.Nat.{mul-add-lt}
 use Rattle.std.proofs.lemmas.Int.{to_z-of_z}
 use Rattle.std.proofs.lemmas.Bool.{and_from}

@@ -1,4 +1,3 @@
-use Rattle.std.proofs.Common.{◌≡◌, drop}
 use Rattle.deck.specs.Workings.{MadeSoFar}
 use Rattle.deck.proofs.state.Deck.make_calls.Given as goal
 

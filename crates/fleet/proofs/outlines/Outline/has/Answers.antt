@@ -1,4 +1,4 @@
-use Rattle.std.proofs.Common.{◌∙◌, arith, w8}
+use Rattle.std.proofs.Common.{◌∙◌, w8}
 use Rattle.std.proofs.lemmas.Int.{to_z-of_z}
 use Rattle.fleet.specs.Cells.{cell_inside}
 use Rattle.fleet.proofs.outlines.Outline.has.Goals as goal

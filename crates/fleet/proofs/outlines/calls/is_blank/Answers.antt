@@ -1,4 +1,4 @@
-use Rattle.std.proofs.Common.{◌≡◌, ◌<◌, false, not, get_or, ap, subst, add-one, arith, rules}
+use Rattle.std.proofs.Common.{◌≡◌, ◌<◌, false, get_or, subst, add-one, arith, rules}
 use Rattle.fleet.specs.Outlined.{drawn_below, is_drawn}
 use Rattle.fleet.specs.Cells.{row_found}
 use Rattle.std.proofs.lemmas.Bool.Decides.{nat_tests}

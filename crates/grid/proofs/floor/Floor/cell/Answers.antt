@@ -1,4 +1,4 @@
-use Rattle.std.proofs.Common.{◌≡◌, sym, arith, w8}
+use Rattle.std.proofs.Common.{sym, w8}
 use Rattle.std.proofs.lemmas.Int.{to_z-of_z}
 use Rattle.std.proofs.lemmas.Bool.{and_from, cond-true}
 use Rattle.grid.specs.declared.cell.Cell.TheVariants.{Pillar}

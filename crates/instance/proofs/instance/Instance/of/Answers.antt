@@ -1,6 +1,5 @@
-use Rattle.std.proofs.Common.{◌≡◌, ℕ, ◌<◌, length, sym, ◌∙◌, inr, arith}
+use Rattle.std.proofs.Common.{ℕ, ◌<◌, sym, ◌∙◌, inr, arith}
 use Rattle.std.proofs.lemmas.Bool.{both_ways}
-use Rattle.job.specs.Facts.{facts}
 use Rattle.tables.specs.TabledFleets.{tabled_sleds}
 use Rattle.instance.specs.Instances.{FitsJob}
 use Rattle.instance.proofs.Past.{some_sleds, few_sleds}

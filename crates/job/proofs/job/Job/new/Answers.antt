@@ -1,4 +1,4 @@
-use Rattle.std.proofs.Common.{◌≡◌, false, length, refl, ap, ◌∙◌, arith, lit≤, length-take}
+use Rattle.std.proofs.Common.{false, length, ap, arith, lit≤, length-take}
 use Rattle.job.specs.Shapes.{outgrown, row_outgrown}
 use Rattle.job.specs.Sound.{sound_sleds}
 use Rattle.job.proofs.job.Job.new.Goals as goal

@@ -1,4 +1,4 @@
-use Rattle.std.proofs.Common.{◌<◌, ◌≤◌, length, sym, ◌∙◌, arith, length-take}
+use Rattle.std.proofs.Common.{◌<◌, length, sym, ◌∙◌, arith, length-take}
 use Rattle.std.proofs.lemmas.List.{get_or-take, get_or_default}
 use Rattle.job.specs.Jobs.{smallest_sled}
 use Rattle.job.proofs.sleds.Sleds.get.Goals as goal

@@ -1,4 +1,4 @@
-use Rattle.std.proofs.Common.{◌≡◌, Err, sym, ap, ◌∙◌, true≢false}
+use Rattle.std.proofs.Common.{Err, sym, ap, ◌∙◌, true≢false}
 use Rattle.search.specs.States.{tree_after}
 use Rattle.search.proofs.Lasting.{told_last, told_no_last, told_at, greatest_cost_at}
 use Rattle.search.proofs.state.Search.makespan.Goals as goal

@@ -1,4 +1,4 @@
-use Rattle.std.proofs.Common.{◌≡◌, ℕ, vec_items, ap, ◌∙◌, subst}
+use Rattle.std.proofs.Common.{vec_items, ap, ◌∙◌, subst}
 use Rattle.split.specs.Situations.{Sets}
 use Rattle.tree.specs.Law.{granted}
 use Rattle.job.specs.Facts.{facts}

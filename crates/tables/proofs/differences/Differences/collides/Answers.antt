@@ -3,7 +3,6 @@ use Rattle.std.proofs.lemmas.Int.{to_z-of_z, ints}
 use Rattle.grid.specs.Moves.{across, down}
 use Rattle.grid.specs.Places.{position_of}
 use Rattle.fleet.specs.Offsets.{Offsets}
-use Rattle.geometry.specs.Overlaps.{Short}
 use Rattle.tables.specs.Sweeps.{swept}
 use Rattle.tables.proofs.Sweeping.{sweep_collide}
 use Rattle.tables.proofs.differences.Differences.collides.Goals as goal

@@ -1,4 +1,4 @@
-use Rattle.std.proofs.Common.{◌||◌, ◌∙◌, arith, w8, SFits}
+use Rattle.std.proofs.Common.{◌||◌, arith, w8, SFits}
 use Rattle.std.proofs.lemmas.Int.{to_z-of_z, ints}
 use Rattle.tables.proofs.differences.Differences.row_has.Goals as goal
 

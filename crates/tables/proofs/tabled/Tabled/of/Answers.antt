@@ -1,4 +1,4 @@
-use Rattle.std.proofs.Common.{ℕ, ◌<◌, Bool, ◌≢◌, List, [], length, get_or, set, sym, subst, arith, below_more}
+use Rattle.std.proofs.Common.{ℕ, ◌<◌, Bool, ◌≢◌, List, [], get_or, set, sym, subst, arith, below_more}
 use Rattle.std.proofs.lemmas.List.{get_or-set_same, get_or-set_other, length-set}
 use Rattle.tables.specs.Tables.{Says}
 use Rattle.tables.proofs.Copies.{copy_is, copy_some}

@@ -1,4 +1,4 @@
-use Rattle.std.proofs.Common.{◌≡◌, Bool, false, sym, refl, ◌∙◌, ⊎_elim, arith, w8}
+use Rattle.std.proofs.Common.{◌≡◌, false, sym, ⊎_elim, arith, w8}
 use Rattle.std.proofs.lemmas.Int.{to_z-of_z}
 use Rattle.std.proofs.lemmas.List.{get_or_default}
 use Rattle.std.proofs.lemmas.Bool.{cases_Bool}

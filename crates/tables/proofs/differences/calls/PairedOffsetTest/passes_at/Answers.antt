@@ -1,4 +1,4 @@
-use Rattle.std.proofs.Common.{◌≡◌, ◌&&◌, ◌+ℤ◌, sym, ⊎_elim, arith, w8, SFits, rules}
+use Rattle.std.proofs.Common.{◌+ℤ◌, sym, ⊎_elim, arith, w8, SFits, rules}
 use Rattle.std.proofs.lemmas.Int.{ints}
 use Rattle.std.proofs.lemmas.Bool.{cases_Bool, and_right}
 use Rattle.tables.proofs.differences.calls.PairedOffsetTest.passes_at.Goals as goal
