@@ -1,6 +1,6 @@
 -- The walk's choice is the theory's: its routes are the routes that obey the constraints, and they cost the same.
 use Rattle.std.proofs.Common.{◌≡◌, ℕ, zero, suc, ◌+◌, ◌-◌, ◌<◌, ◌≤◌, Bool, true, false, cond, not, ◌&&◌, ◌||◌, eqb, ltb, List, [], ◌∷◌, length, take, replicate, Some, None, Option, sym, refl, ap, ◌∙◌, subst, ap₂, inl, inr, ⊎_elim, arith}
-use Rattle.std.specs.List.{AllByRecursion as All}
+use Rattle.std.specs.List.{AllByRecursion}
 use Rattle.std.proofs.lemmas.Bool.{and_parts, and_from, and_right, lt-ltb, cases_Bool, cases_lt, not-true, not_from_false, or_parts, or_from, both_ways}
 use Rattle.std.proofs.lemmas.List.{take_at}
 use Rattle.grid.specs.Board.{Step}
@@ -85,7 +85,7 @@ or_false : (b : Bool) → (b || false) ≡ b
 or_false true = refl
 or_false false = refl
 
-module _ (m : Model) (ok : Keeps m) (b : Forbidden) (bs : List constraints.Constraint) (col : Collected b [] bs) (in_time : All (InTime m.setting) bs) (s : ℕ) where
+module _ (m : Model) (ok : Keeps m) (b : Forbidden) (bs : List constraints.Constraint) (col : Collected b [] bs) (in_time : AllByRecursion (InTime m.setting) bs) (s : ℕ) where
   abbrev S : Setting
   S = m.setting
 

@@ -1,6 +1,6 @@
 -- Constraints, and what they forbid of a route.
 use Rattle.std.proofs.Common.{◌≡◌, ℕ, suc, ◌<◌, ◌≤◌, true, false, not, ◌&&◌, eqb, List, [], ◌∷◌, sym, refl, ap, ◌∙◌, ap₂, ⊎_elim}
-use Rattle.std.specs.List.{AllByRecursion as All}
+use Rattle.std.specs.List.{AllByRecursion}
 use Rattle.std.proofs.lemmas.Bool.{and_parts, and_from, eqb-true, eq-eqb, cases_Bool, not-true, not_from_false, or_parts, or_from, both_ways}
 use Rattle.tree.specs.Setting.{Setting}
 use Rattle.tree.specs.Routes.{at}
@@ -38,7 +38,7 @@ module _ (r : List ℕ) where
       (λ y. y) (cases_Bool ((eqb a t && eqb u (at r t)) && eqb v (at r (suc t)))))
       (obeyed_move bs p.1 t)
 
-  pub obeys_from : (S : Setting) (bs : List constraints.Constraint) → All (InTime S) bs → ((t : ℕ) → t ≤ S.horizon → forbids_place bs t (at r t) ≡ false) → ((t : ℕ) → t < S.horizon → forbids_move bs t (at r t) (at r (suc t)) ≡ false) → constraints.obeys bs r ≡ true
+  pub obeys_from : (S : Setting) (bs : List constraints.Constraint) → AllByRecursion (InTime S) bs → ((t : ℕ) → t ≤ S.horizon → forbids_place bs t (at r t) ≡ false) → ((t : ℕ) → t < S.horizon → forbids_move bs t (at r t) (at r (suc t)) ≡ false) → constraints.obeys bs r ≡ true
   unfolding constraints.obeys constraints.allows
   obeys_from S [] i h k = refl
   obeys_from S (constraints.place_constraint a set ∷ bs) i h k =

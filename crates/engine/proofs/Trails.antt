@@ -7,7 +7,7 @@ use Rattle.tree.specs.Tree as tree
 use Rattle.engine.specs.Model.{Model}
 use Rattle.engine.specs.Table.{Tracks, Timely, LiesIn, blank, empty, own, sled_constraint_of, constraint_of}
 use Rattle.engine.specs.Forbids.{FitsTable, InTime}
-use Rattle.std.specs.List.{AllByRecursion as All}
+use Rattle.std.specs.List.{AllByRecursion}
 use Rattle.engine.specs.declared.node.Constraint.{Constraint}
 use Rattle.engine.specs.declared.node.Constraint.TheVariants.{Places, Move}
 use Rattle.engine.specs.declared.node.SledConstraint.{SledConstraint}
@@ -56,26 +56,26 @@ timely_in : (S : Setting) (b : Constraint) → Timely S b → InTime S (constrai
 timely_in S (Places t set) h = h
 timely_in S (Move t u v) h = h
 
-own_timely : (S : Setting) (o : Option SledConstraint) (above : List constraints.SledConstraint) → LiesIn S o → (is_some o ≡ true → All (TimelyConstraint S) above) → All (TimelyConstraint S) (own o above)
+own_timely : (S : Setting) (o : Option SledConstraint) (above : List constraints.SledConstraint) → LiesIn S o → (is_some o ≡ true → AllByRecursion (TimelyConstraint S) above) → AllByRecursion (TimelyConstraint S) (own o above)
 own_timely S None above h k = tt
 own_timely S (Some b) above h k = (timely_in S b.constraint h.1, k refl)
 
 module _ (m : Model) (table : List Node) (xs : List tree.Node) (t : Tracks m table xs) where
-  trail_timely_up : (n k : ℕ) → k < n → k < length table → All (TimelyConstraint m.setting) (get_or xs k blank).trail
+  trail_timely_up : (n k : ℕ) → k < n → k < length table → AllByRecursion (TimelyConstraint m.setting) (get_or xs k blank).trail
   trail_timely_up zero k h l = absurd (omega arith)
   trail_timely_up (suc n) k h l =
       let e = t.each k l in
-      subst (All (TimelyConstraint m.setting)) (sym e.trail)
+      subst (AllByRecursion (TimelyConstraint m.setting)) (sym e.trail)
       (own_timely m.setting (get_or table k empty).constraint (get_or xs (get_or table k empty).parent blank).trail e.lies_in
       (λ some. let low = e.lower some in trail_timely_up n (get_or table k empty).parent (omega arith) (omega arith)))
 
-  pub trail_timely : (k : ℕ) → k < length table → All (TimelyConstraint m.setting) (get_or xs k blank).trail
+  pub trail_timely : (k : ℕ) → k < length table → AllByRecursion (TimelyConstraint m.setting) (get_or xs k blank).trail
   trail_timely k l = trail_timely_up (k + 1) k (omega arith) l
 
-constraints_timely : (S : Setting) (s : ℕ) (tr : List constraints.SledConstraint) → All (TimelyConstraint S) tr → All (InTime S) (constraints.constraints_on s tr)
+constraints_timely : (S : Setting) (s : ℕ) (tr : List constraints.SledConstraint) → AllByRecursion (TimelyConstraint S) tr → AllByRecursion (InTime S) (constraints.constraints_on s tr)
 unfolding constraints.constraints_on
 constraints_timely S s [] h = tt
-constraints_timely S s (b ∷ tr) h = cond_both (eqb b.sled s) (b.constraint ∷ constraints.constraints_on s tr) (constraints.constraints_on s tr) (All (InTime S)) (λ _. (h.0, constraints_timely S s tr h.1)) (λ _. constraints_timely S s tr h.1)
+constraints_timely S s (b ∷ tr) h = cond_both (eqb b.sled s) (b.constraint ∷ constraints.constraints_on s tr) (constraints.constraints_on s tr) (AllByRecursion (InTime S)) (λ _. (h.0, constraints_timely S s tr h.1)) (λ _. constraints_timely S s tr h.1)
 
-pub more_timely : (S : Setting) (s : ℕ) (b : SledConstraint) (tr : List constraints.SledConstraint) → Timely S b.constraint → All (TimelyConstraint S) tr → All (InTime S) (constraints.constraints_on s (sled_constraint_of b ∷ tr))
+pub more_timely : (S : Setting) (s : ℕ) (b : SledConstraint) (tr : List constraints.SledConstraint) → Timely S b.constraint → AllByRecursion (TimelyConstraint S) tr → AllByRecursion (InTime S) (constraints.constraints_on s (sled_constraint_of b ∷ tr))
 more_timely S s b tr h k = constraints_timely S s (sled_constraint_of b ∷ tr) (timely_in S b.constraint h, k)

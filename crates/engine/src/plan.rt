@@ -1,7 +1,7 @@
 // The route of one sled.
 ghost use Rattle.std.specs.Prelude.{◌≡◌, suc, ◌<◌, List, [], take};
 ghost use Rattle.std.specs.Option.{option_map};
-ghost use Rattle.std.specs.List.{AllByRecursion as All};
+ghost use Rattle.std.specs.List.{AllByRecursion};
 ghost use Rattle.tree.specs.Constraints as constraints;
 ghost use Rattle.tree.specs.Choice.{first_choice};
 ghost use Rattle.engine.specs.Forbids.{permitted, Collected, InTime};
@@ -38,7 +38,7 @@ pub(crate) fn plan_sled<'a, P: Problem>(
     sled: usize,
 ) -> Option<Route>
     requires { sled < (P.Problem.model problem.now).setting.sleds }
-    ensures { (bs : List constraints.Constraint) → Collected forbidden.now [] bs → All (InTime (P.Problem.model problem.now).setting) bs → option_map (take (suc (P.Problem.model problem.now).setting.horizon)) result ≡ first_choice (P.Problem.model problem.now).setting sled bs }
+    ensures { (bs : List constraints.Constraint) → Collected forbidden.now [] bs → AllByRecursion (InTime (P.Problem.model problem.now).setting) bs → option_map (take (suc (P.Problem.model problem.now).setting.horizon)) result ≡ first_choice (P.Problem.model problem.now).setting sled bs }
 {
     let steps = SledSteps {
         problem,

@@ -1,7 +1,7 @@
 -- The places one step from a place.
 use Rattle.std.proofs.Common.{◌≡◌, ℕ, ◌+◌, ◌-◌, ◌/◌, ◌%◌, ◌<◌, ◌≤◌, Bool, true, false, ◌&&◌, ltb, leb, ◌⊎◌, List, [], ◌∷◌, ◌++◌, ℤ, pos, ◌+ℤ◌, Some, None, Option, sym, refl, ap, ◌∙◌, subst, inl, inr, arith}
 use Rattle.std.specs.Option.{option_to_list}
-use Rattle.std.specs.List.{flat_map, AllByRecursion as All}
+use Rattle.std.specs.List.{flat_map, AllByRecursion}
 use Rattle.std.proofs.lemmas.Int.{ints}
 use Rattle.std.proofs.lemmas.Bool.{both_ways, and_from, and_left, and_right, le-leb, lt-ltb}
 use Rattle.std.proofs.lemmas.Bool.Decides.{nat_tests}
@@ -38,12 +38,12 @@ joined_in f x (y ∷ ys) h = elim (in_either x (f y) (flat_map f ys) h) [
   | inr k ↦ let r = joined_in f x ys k in (r.0, inr r.1, r.2)
 ]
 
-pub all_in : {A : Type 0} (P : A → Type 0) (xs : List A) (x : A) → All P xs → In x xs → P x
+pub all_in : {A : Type 0} (P : A → Type 0) (xs : List A) (x : A) → AllByRecursion P xs → In x xs → P x
 all_in P [] x h k = elim k [ ]
 all_in P (y ∷ ys) x h (inl e) = subst P e h.0
 all_in P (y ∷ ys) x h (inr k) = all_in P ys x h.1 k
 
-pub all_from_in : {A : Type 0} (P : A → Type 0) (xs : List A) → ((x : A) → In x xs → P x) → All P xs
+pub all_from_in : {A : Type 0} (P : A → Type 0) (xs : List A) → ((x : A) → In x xs → P x) → AllByRecursion P xs
 all_from_in P [] h = tt
 all_from_in P (y ∷ ys) h = (h y (inl refl), all_from_in P ys (λ x k. h x (inr k)))
 
@@ -197,7 +197,7 @@ side_reach p South q e = only_some (λ x. x + 16 ≡ p + 32) (ltb p 240) (p + 16
 -- moves each of which goes less far than all later ones
 abbrev Outward : List Move → Type 0
 Outward [] = Unit {0}
-Outward (m ∷ ms) = All (λ n. reach m < reach n) ms × Outward ms
+Outward (m ∷ ms) = AllByRecursion (λ n. reach m < reach n) ms × Outward ms
 
 every_outward : Outward every_move
 every_outward = search arith

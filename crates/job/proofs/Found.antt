@@ -1,6 +1,6 @@
 -- What is known of the bytes once a reading of them succeeded.
 use Rattle.std.proofs.Common.{◌≡◌, ℕ, ◌+◌, ◌*◌, ◌/◌, ◌%◌, ◌<◌, ◌≤◌, Bool, true, false, cond, not, ◌&&◌, ◌||◌, eqb, ltb, leb, List, [], ◌∷◌, ◌++◌, length, get_or, take, drop, Some, None, Ok, Err, Option, Result, sym, refl, ap, ◌∙◌, subst, arith}
-use Rattle.std.specs.List.{AllByRecursion as All}
+use Rattle.std.specs.List.{AllByRecursion}
 use Rattle.std.proofs.lemmas.List.{drop_more, take-append-drop, append_assoc, length-take-le, length-append, length-drop, drop-drop}
 use Rattle.std.proofs.lemmas.Bool.{and_from, ltb-true, leb-true, eqb-true, eq-eqb}
 use Rattle.std.proofs.lemmas.Bool.Decides.{nat_tests}
@@ -20,7 +20,7 @@ use Rattle.job.specs.Sound.{is_drawing, sound_sled}
 use Rattle.job.specs.Told.{field_size}
 
 abbrev pub Bytes : List ℕ → Type 0
-Bytes bs = All (λ b. b < 256) bs
+Bytes bs = AllByRecursion (λ b. b < 256) bs
 
 -- a check that was passed
 pub checked_ok : {A : Type 0} (ok : Bool) (cause : Cause) (at : ℕ) (next : Result A Fault) (x : A) → checked ok cause at next ≡ Ok x → (ok ≡ true) × (next ≡ Ok x)

@@ -3,7 +3,7 @@ use Rattle.std.specs.Prelude.{◌≡◌, ℕ, ◌<◌, ◌≤◌, List, [], ◌�
 use Rattle.grid.specs.Places.{position_of}
 use Rattle.job.specs.declared.sled.Sled.{Sled}
 use Rattle.job.specs.declared.sled_value.SledValue.{SledValue}
-use Rattle.std.specs.List.{AllByRecursion as All}
+use Rattle.std.specs.List.{AllByRecursion}
 use Rattle.fault.specs.declared.cause.Fault.{Fault}
 use Rattle.grid.specs.declared.cell.Cell.TheVariants.{Free}
 use Rattle.job.specs.declared.job.Job.{Job}
@@ -39,4 +39,4 @@ EveryJobIsReadBack = (j : Job) → decode (encode (facts j)) ≡ Ok (facts j)
 
 -- a file of bytes that gives a job is that job's file
 abbrev pub OnlyItsOwnFileGivesAJob : Type 0
-OnlyItsOwnFileGivesAJob = (file : List ℕ) (j : JobFacts) → All (λ b. b < 256) file → decode file ≡ Ok j → file ≡ encode j
+OnlyItsOwnFileGivesAJob = (file : List ℕ) (j : JobFacts) → AllByRecursion (λ b. b < 256) file → decode file ≡ Ok j → file ≡ encode j

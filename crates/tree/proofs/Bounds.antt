@@ -3,7 +3,7 @@ use Rattle.std.proofs.Common.{◌≡◌, ℕ, suc, ◌+◌, ◌≤◌, true, ltb
 use Rattle.std.proofs.lemmas.Bool.{cond_both, true≢false}
 use Rattle.std.proofs.ByRecursion.{All-append, All-set, All-weaker}
 use Rattle.std.specs.Option.{option_map}
-use Rattle.std.specs.List.{AllByRecursion as All}
+use Rattle.std.specs.List.{AllByRecursion}
 use Rattle.tree.specs.Lists.{to_list}
 use Rattle.tree.specs.Setting.{Setting}
 use Rattle.tree.specs.Plans.{sum}
@@ -32,7 +32,7 @@ not_lower_trans (Some a) (Some b) (Some c) h k = omega arith
 
 -- every open node of the list has at least that sum
 abbrev From : Setting → ℕ → List Node → Type 0
-From S b nodes = All (λ x. x.is_open ≡ true → b ≤ sum S x.routes) nodes
+From S b nodes = AllByRecursion (λ x. x.is_open ≡ true → b ≤ sum S x.routes) nodes
 
 from_not_lower : (S : Setting) (b : ℕ) (nodes : List Node) (v : Verdict) → From S b nodes → NotLower (Some b) (bound S (tree_of nodes v))
 unfolding bound

@@ -2,7 +2,7 @@
 use Rattle.std.proofs.Common.{◌≡◌, ℕ, zero, suc, ◌+◌, ◌≤◌, ltb, List, [], ◌∷◌, ◌++◌, length, set, Some, None, Option, sym, refl, ap, ◌∙◌, subst, inl, inr, ⊎_elim, arith, length-set}
 use Rattle.std.proofs.lemmas.Bool.{cond_both}
 use Rattle.std.proofs.ByRecursion.{All-append, All-weaker}
-use Rattle.std.specs.List.{AllByRecursion as All}
+use Rattle.std.specs.List.{AllByRecursion}
 use Rattle.tree.specs.Lists.{Nth, to_list}
 use Rattle.tree.specs.Constraints.{SledConstraint}
 use Rattle.tree.specs.Conflicts.{Conflict, first_conflict}
@@ -40,10 +40,10 @@ module _ (P : Search) (nodes : List Node) (f : Found) (c : Conflict) (stands : N
   abbrev Kid : Node → Type 0
   Kid x = (b : SledConstraint) × (x.trail ≡ b ∷ f.node.trail) × (x.parent ≡ f.number)
 
-  all_kids : All Kid kids
+  all_kids : AllByRecursion Kid kids
   all_kids = All-append Kid (to_list (make_node P f.number (first_constraint P f.node c ∷ f.node.trail))) _ (side (first_constraint P f.node c)) (side (second_constraint P f.node c))
     where
-      side : (b : SledConstraint) → All Kid (to_list (make_node P f.number (b ∷ f.node.trail)))
+      side : (b : SledConstraint) → AllByRecursion Kid (to_list (make_node P f.number (b ∷ f.node.trail)))
       side b = All-weaker _ Kid (λ x h. (b, h.1, h.2)) (to_list (make_node P f.number (b ∷ f.node.trail))) (make_made P f.number (b ∷ f.node.trail))
 
   parent_there : Nth (expand P nodes f c) f.number (closed f.node)

@@ -1,7 +1,7 @@
 -- Laws of the words on lists and on what may be absent.
 use Rattle.std.proofs.Common.{◌≡◌, ℕ, zero, suc, ◌<◌, ◌≤◌, Bool, true, ◌⊎◌, List, [], ◌∷◌, ◌++◌, length, get_or, set, Some, None, Option, sym, refl, ap, ◌∙◌, subst, inl, inr, ⊎_elim, arith}
 use Rattle.std.proofs.lemmas.Bool.{and_parts, and_from, cases_lt}
-use Rattle.std.specs.List.{AllByRecursion as All}
+use Rattle.std.specs.List.{AllByRecursion}
 use Rattle.std.specs.Option.{option_map}
 use Rattle.tree.specs.Lists.{Nth, or_else, first_below, all_below, total, both_or_none, gather}
 
@@ -151,7 +151,7 @@ pub nth_right : {A : Type 0} (x : A) (xs ys : List A) (k : ℕ) → Nth ys k x �
 nth_right x [] ys k p = (k, p)
 nth_right x (z ∷ zs) ys k p = let r = nth_right x zs ys k p in (suc r.0, r.1)
 
-pub all_nth : {A : Type 0} (P : A → Type 0) (x : A) (xs : List A) (k : ℕ) → All P xs → Nth xs k x → P x
+pub all_nth : {A : Type 0} (P : A → Type 0) (x : A) (xs : List A) (k : ℕ) → AllByRecursion P xs → Nth xs k x → P x
 all_nth P x [] k h p = absurd p
 all_nth P x (z ∷ zs) zero h p = subst P p h.0
 all_nth P x (z ∷ zs) (suc k) h p = all_nth P x zs k h.1 p
@@ -161,7 +161,7 @@ pub nth_each : {A : Type 0} (P : A → Type 0) (y : A) (ys : List A) → P y →
 nth_each P y ys h hs zero x p = subst P p h
 nth_each P y ys h hs (suc k) x p = hs k x p
 
-pub all_from_nth : {A : Type 0} (P : A → Type 0) (xs : List A) → ((k : ℕ) (x : A) → Nth xs k x → P x) → All P xs
+pub all_from_nth : {A : Type 0} (P : A → Type 0) (xs : List A) → ((k : ℕ) (x : A) → Nth xs k x → P x) → AllByRecursion P xs
 all_from_nth P [] h = tt
 all_from_nth P (z ∷ zs) h = (h 0 z refl, all_from_nth P zs (λ k x p. h (suc k) x p))
 

@@ -2,7 +2,7 @@
 use Rattle.std.proofs.Common.{◌≡◌, ℕ, zero, suc, ◌<◌, ◌≤◌, Bool, true, false, cond, ◌&&◌, leb, List, [], ◌∷◌, Some, None, Option, sym, refl, ap, subst, ⊎_elim, arith}
 use Rattle.std.proofs.lemmas.Bool.{cases_order, ne_eqb, both_ways, and_parts, and_cases, leb-true, leb-false, cond_both}
 use Rattle.std.specs.Option.{option_map}
-use Rattle.std.specs.List.{AllByRecursion as All}
+use Rattle.std.specs.List.{AllByRecursion}
 use Rattle.tree.specs.Lists.{Nth, to_list}
 use Rattle.tree.specs.Setting.{Setting}
 use Rattle.tree.specs.Routes.{cost}
@@ -52,11 +52,11 @@ module _ (P : Search) (parent : ℕ) (trail : List SledConstraint) where
   abbrev with_routes : Plan → Node
   with_routes p = record { parent = parent; trail = trail; routes = p; is_open = true }
 
-  pub make_made : All (λ x. Made P x × (x.trail ≡ trail) × (x.parent ≡ parent)) (to_list (make_node P parent trail))
+  pub make_made : AllByRecursion (λ x. Made P x × (x.trail ≡ trail) × (x.parent ≡ parent)) (to_list (make_node P parent trail))
   unfolding make_node
   make_made = go (routes_under P trail) refl
     where
-      go : (o : Option Plan) → routes_under P trail ≡ o → All (λ x. Made P x × (x.trail ≡ trail) × (x.parent ≡ parent)) (to_list (option_map with_routes o))
+      go : (o : Option Plan) → routes_under P trail ≡ o → AllByRecursion (λ x. Made P x × (x.trail ≡ trail) × (x.parent ≡ parent)) (to_list (option_map with_routes o))
       go None e = tt
       go (Some p) e = ((e, refl, refl), tt)
 

@@ -4,7 +4,7 @@ use Rattle.std.proofs.Common.{◌≡◌, ℕ, zero, suc, ◌+◌, ◌≤◌, tru
 use Rattle.std.proofs.lemmas.Bool.{cond_both}
 use Rattle.std.proofs.ByRecursion.{All-append, All-set, All-weaker}
 use Rattle.std.specs.Option.{option_map}
-use Rattle.std.specs.List.{AllByRecursion as All}
+use Rattle.std.specs.List.{AllByRecursion}
 use Rattle.tree.specs.Lists.{Nth, to_list}
 use Rattle.tree.specs.Setting.{Setting}
 use Rattle.tree.specs.Plans.{Plan, CollisionFree, LeastSum, sum}
@@ -30,7 +30,7 @@ abbrev pub Covers : Search → List Node → Type 0
 Covers P nodes = (p : Plan) → CollisionFree P.setting p → Covered P.setting nodes p
 
 abbrev pub AllMade : Search → List Node → Type 0
-AllMade P nodes = All (Made P) nodes
+AllMade P nodes = AllByRecursion (Made P) nodes
 
 -- what a verdict says of the nodes
 abbrev pub Says : Search → List Node → Verdict → Type 0

@@ -1,5 +1,5 @@
 // The table of trials.
-ghost use Rattle.std.specs.List.{AllByRecursion as All};
+ghost use Rattle.std.specs.List.{AllByRecursion};
 ghost use Rattle.tree.specs.Trials.{ComesOut, TrialsKeepTerms};
 
 use super::trial::{Floor, Outcome, Trial};
@@ -62,7 +62,7 @@ const CORNERS: Trial = Trial {
 
 // All trials; each of them comes out as it says.
 pub fn trials_come_out() -> [Trial; 9]
-    ensures each { All ComesOut result }
+    ensures each { AllByRecursion ComesOut result }
     ensures terms { TrialsKeepTerms }
 {
     [

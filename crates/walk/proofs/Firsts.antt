@@ -1,7 +1,7 @@
 -- The first element of a list that passes a test.
 use Rattle.std.proofs.Common.{◌≡◌, ℕ, ◌≤◌, Bool, true, false, cond, ◌&&◌, ◌||◌, eqb, leb, List, [], ◌∷◌, ◌++◌, map, IfSome, Some, None, filter, Option, sym, refl, ap, ◌∙◌, subst, ⊎_elim, arith, MatchOption}
 use Rattle.std.specs.Option.{option_map}
-use Rattle.std.specs.List.{flat_map, AllByRecursion as All}
+use Rattle.std.specs.List.{flat_map, AllByRecursion}
 use Rattle.std.proofs.lemmas.Bool.{cases_Bool, false≢true, or_parts, and_parts, and_from, leb-true, eq-eqb, eqb-true, eqb-false, le-leb, lt-leb}
 use Rattle.walk.specs.Kinds.{either_both}
 use Rattle.walk.specs.Semiring.{summed}
@@ -34,12 +34,12 @@ first_kept f b (x ∷ xs) =
     [ true ↦ ap (cond (f x) (Some x)) rest | false ↦ rest ]
 
 -- equal tests have one first
-pub first_same : {A : Type 0} (f g : A → Bool) (xs : List A) → All (λ x. f x ≡ g x) xs → first f xs ≡ first g xs
+pub first_same : {A : Type 0} (f g : A → Bool) (xs : List A) → AllByRecursion (λ x. f x ≡ g x) xs → first f xs ≡ first g xs
 first_same f g [] h = refl
 first_same f g (x ∷ xs) h = ap (λ b. cond b (Some x) (first f xs)) h.0 ∙ ap (cond (g x) (Some x)) (first_same f g xs h.1)
 
 -- none passes
-pub none_passes : {A : Type 0} (f : A → Bool) (xs : List A) → summed either_both f xs ≡ false → All (λ x. f x ≡ false) xs
+pub none_passes : {A : Type 0} (f : A → Bool) (xs : List A) → summed either_both f xs ≡ false → AllByRecursion (λ x. f x ≡ false) xs
 none_passes f [] e = tt
 none_passes f (x ∷ xs) e = let p = or_parts (f x) (summed either_both f xs) e in (p.0, none_passes f xs p.1)
 
@@ -93,7 +93,7 @@ first_passes f (y ∷ ys) x e = ⊎_elim
     (cases_Bool (f y))
 
 -- what holds of each holds of the first
-pub first_holds : {A : Type 0} (P : A → Type 0) (f : A → Bool) (xs : List A) (x : A) → All P xs → first f xs ≡ Some x → P x
+pub first_holds : {A : Type 0} (P : A → Type 0) (f : A → Bool) (xs : List A) (x : A) → AllByRecursion P xs → first f xs ≡ Some x → P x
 first_holds P f [] x h e = absurd (none_some x e)
 first_holds P f (y ∷ ys) x h e = ⊎_elim
     (λ t. subst P (inside y x (ap (λ b. cond b (Some y) (first f ys)) (sym t) ∙ e)) h.0)
@@ -104,7 +104,7 @@ better_all : {A : Type 0} (f : A → ℕ) (P : A → Type 0) (x : A) (o : Option
 better_all f P x None h k = h
 better_all f P x (Some y) h k = elim (leb (f x) (f y)) as (λ b. IfSome (cond b (Some x) (Some y)) P) [ true ↦ h | false ↦ k ]
 
-least_all : {A : Type 0} (f : A → ℕ) (P : A → Type 0) (xs : List A) → All P xs → IfSome (least f xs) P
+least_all : {A : Type 0} (f : A → ℕ) (P : A → Type 0) (xs : List A) → AllByRecursion P xs → IfSome (least f xs) P
 least_all f P [] h = tt
 least_all f P (x ∷ xs) h = better_all f P x (least f xs) h.0 (least_all f P xs h.1)
 
@@ -113,7 +113,7 @@ better_here f m x None e h = refl
 better_here f m x (Some y) e h = ap (λ b. cond b (Some x) (Some y)) (le-leb (f x) (f y) (omega arith))
 
 -- The first of the least, where m is a bound that is met.
-pub least_first : {A : Type 0} (f : A → ℕ) (m : ℕ) (xs : List A) (x : A) → All (λ y. m ≤ f y) xs → first (λ y. eqb (f y) m) xs ≡ Some x → least f xs ≡ Some x
+pub least_first : {A : Type 0} (f : A → ℕ) (m : ℕ) (xs : List A) (x : A) → AllByRecursion (λ y. m ≤ f y) xs → first (λ y. eqb (f y) m) xs ≡ Some x → least f xs ≡ Some x
 least_first f m [] x all e = absurd (none_some x e)
 least_first f m (y ∷ ys) x all e = ⊎_elim
     (λ t.
@@ -127,7 +127,7 @@ least_first f m (y ∷ ys) x all e = ⊎_elim
     ap (better f y) (least_first f m ys x all.1 later) ∙ ap (λ b. cond b (Some y) (Some x)) (lt-leb (f y) (f x) (omega arith)))
     (cases_Bool (eqb (f y) m))
 
-pub kept_same : {A : Type 0} (f g : A → Bool) (xs : List A) → All (λ x. f x ≡ g x) xs → filter f xs ≡ filter g xs
+pub kept_same : {A : Type 0} (f g : A → Bool) (xs : List A) → AllByRecursion (λ x. f x ≡ g x) xs → filter f xs ≡ filter g xs
 kept_same f g [] h = refl
 kept_same f g (x ∷ xs) h =
     ap (λ b. cond b (x ∷ filter f xs) (filter f xs)) h.0 ∙ ap (λ ys. cond (g x) (x ∷ ys) ys) (kept_same f g xs h.1)
@@ -148,12 +148,12 @@ every_first f g (y ∷ ys) x h e =
     (λ n. every_first f g ys x p.1 (ap (λ b. cond b (Some y) (first g ys)) (sym n) ∙ e))
     (cases_Bool (g y))
 
-every_from : {A : Type 0} (f : A → Bool) (xs : List A) → All (λ x. f x ≡ true) xs → every f xs ≡ true
+every_from : {A : Type 0} (f : A → Bool) (xs : List A) → AllByRecursion (λ x. f x ≡ true) xs → every f xs ≡ true
 every_from f [] h = refl
 every_from f (x ∷ xs) h = and_from (f x) (every f xs) h.0 (every_from f xs h.1)
 
 -- The cheapest, where m is a bound that is met.
-pub cheapest_are : {A : Type 0} (f : A → ℕ) (m : ℕ) (xs : List A) (x : A) → All (λ y. m ≤ f y) xs → first (λ y. eqb (f y) m) xs ≡ Some x → cheapest f xs ≡ filter (λ y. eqb (f y) m) xs
+pub cheapest_are : {A : Type 0} (f : A → ℕ) (m : ℕ) (xs : List A) (x : A) → AllByRecursion (λ y. m ≤ f y) xs → first (λ y. eqb (f y) m) xs ≡ Some x → cheapest f xs ≡ filter (λ y. eqb (f y) m) xs
 cheapest_are f m xs x all e =
     let met = eqb-true (f x) m (first_passes (λ y. eqb (f y) m) xs x e) in
     kept_same _ _ xs (All-weaker (λ y. m ≤ f y) _ (λ y low. same_bool (every (λ z. leb (f y) (f z)) xs) (eqb (f y) m)

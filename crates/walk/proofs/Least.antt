@@ -1,6 +1,6 @@
 -- The first route of least cost, by the least instant at which the goal can be reached and kept.
 use Rattle.std.proofs.Common.{◌≡◌, ℕ, zero, suc, ◌+◌, ◌-◌, ◌<◌, ◌≤◌, Bool, true, false, cond, ◌&&◌, eqb, List, [], ◌∷◌, length, drop, Some, None, filter, sym, refl, ap, ◌∙◌, ⊎_elim, arith}
-use Rattle.std.specs.List.{AllByRecursion as All}
+use Rattle.std.specs.List.{AllByRecursion}
 use Rattle.std.proofs.ByRecursion.{All-weaker}
 use Rattle.std.proofs.lemmas.Bool.{cases_Bool, cases_lt, eqb-true, eq-eqb, and_parts, and_from, both_ways}
 use Rattle.walk.specs.Kinds.{count, capped}
@@ -18,7 +18,7 @@ use Rattle.walk.proofs.Reach.{reach, some_fits, reach_fits, and_true}
 use Rattle.walk.proofs.Totals.{same_bool}
 
 -- a sequence of n steps has n places after the first
-pub sequences_length : (n p : ℕ) → All (λ s. length s ≡ n) (sequences n p)
+pub sequences_length : (n p : ℕ) → AllByRecursion (λ s. length s ≡ n) (sequences n p)
 sequences_length n p = All-weaker _ _ (λ s h. h.0) (sequences n p) (sequences_all n p)
 
 -- from its cost on a route is at the goal
@@ -78,7 +78,7 @@ module _ (a : ℕ → ℕ → ℕ → Bool) (goal : ℕ) (place : goal < 256) (n
     abbrev Early : List ℕ → Type 0
     Early s = (length s ≡ n) × ((k : ℕ) → k < c → fits a goal k 0 start s ≡ false)
 
-    early : All Early (sequences n start)
+    early : AllByRecursion Early (sequences n start)
     early =
         all_two _ _ (sequences n start) (sequences_length n start)
         (all_below (λ k s. fits a goal k 0 start s ≡ false) c (sequences n start) (λ k l. none_passes (fits a goal k 0 start) (sequences n start) (some_fits_at k (omega arith) ∙ before k l)))
@@ -106,7 +106,7 @@ module _ (a : ℕ → ℕ → ℕ → Bool) (goal : ℕ) (place : goal < 256) (n
     abbrev costs : List ℕ → ℕ
     costs s = cost goal (start ∷ s)
 
-    bounds : All (λ s. c ≤ costs s) (routes a n start goal)
+    bounds : AllByRecursion (λ s. c ≤ costs s) (routes a n start goal)
     bounds =
         all_kept _ (passes a 0 start) (filter (λ s. eqb (end start s) goal) (sequences n start))
         (all_kept _ (λ s. eqb (end start s) goal) (sequences n start) (All-weaker _ _ (λ s h _ pass. bound s h pass) (sequences n start) early))

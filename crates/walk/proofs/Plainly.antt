@@ -1,6 +1,6 @@
 -- The choice by enumeration, in plain words.
 use Rattle.std.proofs.Common.{◌≡◌, ℕ, zero, suc, ◌<◌, ◌≤◌, Bool, true, false, cond, eqb, leb, ◌⊎◌, List, [], ◌∷◌, ◌++◌, map, length, Some, None, filter, Option, sym, refl, ap, ◌∙◌, subst, inl, inr, ⊎_elim, arith, MatchOption}
-use Rattle.std.specs.List.{flat_map, AllByRecursion as All}
+use Rattle.std.specs.List.{flat_map, AllByRecursion}
 use Rattle.std.proofs.ByRecursion.{All-append, All-map, All-weaker}
 use Rattle.std.proofs.lemmas.Bool.{cases_Bool, eqb-true, eq-eqb, leb-true, leb-false, cases_lt}
 use Rattle.grid.specs.Board.{next, Step, In, Ascending}
@@ -23,7 +23,7 @@ in_kept b x (y ∷ ys) (inr k) h =
     elim (b y) as (λ t. In x (cond t (y ∷ filter b ys) (filter b ys))) [ true ↦ inr rest | false ↦ rest ]
 
 -- the sequences are all stepwise lists of their length
-pub sequences_all : (n p : ℕ) → All (λ s. (length s ≡ n) × Stepwise p s) (sequences n p)
+pub sequences_all : (n p : ℕ) → AllByRecursion (λ s. (length s ≡ n) × Stepwise p s) (sequences n p)
 unfolding sequences
 sequences_all zero p = ((refl, tt), tt)
 sequences_all (suc n) p =
@@ -41,9 +41,9 @@ sequences_in (suc n) p (q ∷ s) e h =
 -- a list in order: each element stands so to all later ones
 abbrev Ordered : {A : Type 0} → (A → A → Type 0) → List A → Type 0
 Ordered R [] = Unit {0}
-Ordered R (x ∷ xs) = All (R x) xs × Ordered R xs
+Ordered R (x ∷ xs) = AllByRecursion (R x) xs × Ordered R xs
 
-ordered_append : {A : Type 0} (R : A → A → Type 0) (xs ys : List A) → Ordered R xs → Ordered R ys → All (λ x. All (R x) ys) xs → Ordered R (xs ++ ys)
+ordered_append : {A : Type 0} (R : A → A → Type 0) (xs ys : List A) → Ordered R xs → Ordered R ys → AllByRecursion (λ x. AllByRecursion (R x) ys) xs → Ordered R (xs ++ ys)
 ordered_append R [] ys h k c = k
 ordered_append R (x ∷ xs) ys h k c = (All-append (R x) xs ys h.0 c.0, ordered_append R xs ys h.1 k c.1)
 
@@ -58,11 +58,11 @@ ordered_kept R b (x ∷ xs) h =
     let here = all_kept (R x) b xs (All-weaker (R x) _ (λ y r _. r) xs h.0) in
     elim (b x) as (λ t. Ordered R (cond t (x ∷ filter b xs) (filter b xs))) [ true ↦ (here, rest) | false ↦ rest ]
 
-all_cross : {A X : Type 0} (R : A → A → Type 0) (Q : X → Type 0) (f : X → List A) (ss : List A) (ys : List X) → All Q ys → ((y : X) → Q y → All (λ s. All (R s) (f y)) ss) → All (λ s. All (R s) (flat_map f ys)) ss
+all_cross : {A X : Type 0} (R : A → A → Type 0) (Q : X → Type 0) (f : X → List A) (ss : List A) (ys : List X) → AllByRecursion Q ys → ((y : X) → Q y → AllByRecursion (λ s. AllByRecursion (R s) (f y)) ss) → AllByRecursion (λ s. AllByRecursion (R s) (flat_map f ys)) ss
 all_cross R Q f [] ys h k = tt
 all_cross R Q f (s ∷ ss) ys h k = (all_joined (R s) Q f ys h (λ y q. (k y q).0), all_cross R Q f ss ys h (λ y q. (k y q).1))
 
-ordered_joined : {A : Type 0} (R : A → A → Type 0) (f : ℕ → List A) (xs : List ℕ) → Ordered ◌<◌ xs → ((x : ℕ) → Ordered R (f x)) → ((x y : ℕ) → x < y → All (λ s. All (R s) (f y)) (f x)) → Ordered R (flat_map f xs)
+ordered_joined : {A : Type 0} (R : A → A → Type 0) (f : ℕ → List A) (xs : List ℕ) → Ordered ◌<◌ xs → ((x : ℕ) → Ordered R (f x)) → ((x y : ℕ) → x < y → AllByRecursion (λ s. AllByRecursion (R s) (f y)) (f x)) → Ordered R (flat_map f xs)
 ordered_joined R f [] h k c = tt
 ordered_joined R f (x ∷ xs) h k c =
     ordered_append R (f x) (flat_map f xs) (k x) (ordered_joined R f xs h.1 k c) (all_cross R (λ y. x < y) f (f x) xs h.0 (λ y l. c x y l))
@@ -79,7 +79,7 @@ sequences_ordered zero p = (tt, tt)
 sequences_ordered (suc n) p =
     ordered_joined Before (λ q. map (λ s. q ∷ s) (sequences n q)) (next p) (ascending_ordered (next p) (next_places p).ascending)
     (λ q. ordered_map Before Before (λ s. q ∷ s) (sequences n q) (λ s t h. inr (refl, h)) (sequences_ordered n q))
-    (λ x y l. All-map (λ s. All (Before s) (map (λ t. y ∷ t) (sequences n y))) (λ s. x ∷ s) (sequences n x) (all_every _ (λ s. All-map (Before (x ∷ s)) (λ t. y ∷ t) (sequences n y) (all_every _ (λ t. inl l) (sequences n y))) (sequences n x)))
+    (λ x y l. All-map (λ s. AllByRecursion (Before s) (map (λ t. y ∷ t) (sequences n y))) (λ s. x ∷ s) (sequences n x) (all_every _ (λ s. All-map (Before (x ∷ s)) (λ t. y ∷ t) (sequences n y) (all_every _ (λ t. inl l) (sequences n y))) (sequences n x)))
 
 before_same : (s : List ℕ) → Before s s
 before_same [] = tt
@@ -90,15 +90,15 @@ abbrev Beats : (List ℕ → ℕ) → List ℕ → List ℕ → Type 0
 Beats f b s = (f b < f s) ⊎ ((f b ≡ f s) × Before b s)
 
 abbrev Wins : (List ℕ → ℕ) → List (List ℕ) → List ℕ → Type 0
-Wins f xs b = In b xs × All (Beats f b) xs
+Wins f xs b = In b xs × AllByRecursion (Beats f b) xs
 
 no_later : (f : List ℕ → ℕ) (x y s : List ℕ) → f x ≤ f y → Beats f y s × Before x s → Beats f x s
 no_later f x y s l h =
     let low : f y ≤ f s = ⊎_elim (λ u. omega arith) (λ u. let e = u.0 in omega arith) h.0 in
     ⊎_elim (λ less. inl less) (λ more. inr (omega arith, h.1)) (cases_lt (f x) (f s))
 
-better_wins : (f : List ℕ → ℕ) (x : List ℕ) (xs : List (List ℕ)) (o : Option (List ℕ)) → All (Before x) xs → MatchOption o (xs ≡ []) (Wins f xs) → MatchOption (better f x o) (x ∷ xs ≡ []) (Wins f (x ∷ xs))
-better_wins f x xs None above h = (inl refl, (inr (refl, before_same x), subst (All (Beats f x)) (sym h) tt))
+better_wins : (f : List ℕ → ℕ) (x : List ℕ) (xs : List (List ℕ)) (o : Option (List ℕ)) → AllByRecursion (Before x) xs → MatchOption o (xs ≡ []) (Wins f xs) → MatchOption (better f x o) (x ∷ xs ≡ []) (Wins f (x ∷ xs))
+better_wins f x xs None above h = (inl refl, (inr (refl, before_same x), subst (AllByRecursion (Beats f x)) (sym h) tt))
 better_wins f x xs (Some y) above h = ⊎_elim
     (λ t. subst (λ b. MatchOption (cond b (Some x) (Some y)) (x ∷ xs ≡ []) (Wins f (x ∷ xs))) (sym t)
     (inl refl, (inr (refl, before_same x), All-weaker (λ s. Beats f y s × Before x s) _ (λ s k. no_later f x y s (leb-true (f x) (f y) t) k) xs (all_two (Beats f y) (Before x) xs h.1 above))))
@@ -112,7 +112,7 @@ least_wins f (x ∷ xs) h = better_wins f x xs (least f xs) h.0 (least_wins f xs
 
 module _ (a : ℕ → ℕ → ℕ → Bool) (n start goal : ℕ) where
   -- the routes by enumeration are the routes
-  routes_all : All (Route a n start goal) (routes a n start goal)
+  routes_all : AllByRecursion (Route a n start goal) (routes a n start goal)
   routes_all =
       all_kept _ (passes a 0 start) (filter (λ s. eqb (end start s) goal) (sequences n start))
       (all_kept _ (λ s. eqb (end start s) goal) (sequences n start)

@@ -1,6 +1,6 @@
 -- Worked examples, costs, and the routes of a sled.
 use Rattle.std.proofs.Common.{◌≡◌, ℕ, zero, suc, ◌+◌, ◌-◌, ◌<◌, ◌≤◌, Bool, true, ◌&&◌, eqb, List, [], ◌∷◌, length, get_or, drop, sym, refl, ap, ◌∙◌, arith}
-use Rattle.std.specs.List.{AllByRecursion as All}
+use Rattle.std.specs.List.{AllByRecursion}
 use Rattle.std.proofs.lemmas.List.{length-drop, get_or-drop}
 use Rattle.std.proofs.lemmas.Bool.{and_parts, and_from, eqb-true, eq-eqb}
 use Rattle.grid.specs.Board.{next}
@@ -24,18 +24,18 @@ unfolding sequences next
 just_in_time_holds = record { first = refl; price = refl; number = refl }
 
 -- a sequence of allowed steps stands at each of its places
-passes_stands : (may : ℕ → Bool) (t p q : ℕ) (s : List ℕ) → passes (both_ends may) t p (q ∷ s) ≡ true → All (λ r. may r ≡ true) (p ∷ q ∷ s)
+passes_stands : (may : ℕ → Bool) (t p q : ℕ) (s : List ℕ) → passes (both_ends may) t p (q ∷ s) ≡ true → AllByRecursion (λ r. may r ≡ true) (p ∷ q ∷ s)
 passes_stands may t p q [] e = let ends = and_parts (may p) (may q) (and_parts (may p && may q) true e).0 in (ends.0, (ends.1, tt))
 passes_stands may t p q (r ∷ s) e =
     let parts = and_parts (may p && may q) (passes (both_ends may) (t + 1) q (r ∷ s)) e in
     ((and_parts (may p) (may q) parts.0).0, passes_stands may (t + 1) q r s parts.1)
 
-stands_passes : (may : ℕ → Bool) (t p : ℕ) (s : List ℕ) → All (λ r. may r ≡ true) (p ∷ s) → passes (both_ends may) t p s ≡ true
+stands_passes : (may : ℕ → Bool) (t p : ℕ) (s : List ℕ) → AllByRecursion (λ r. may r ≡ true) (p ∷ s) → passes (both_ends may) t p s ≡ true
 stands_passes may t p [] h = refl
 stands_passes may t p (q ∷ s) h =
     and_from (may p && may q) (passes (both_ends may) (t + 1) q s) (and_from (may p) (may q) h.0 h.1.0) (stands_passes may (t + 1) q s h.1)
 
-stands_all : (may : ℕ → Bool) (n start : ℕ) (s : List ℕ) → 1 ≤ n → length s ≡ n → passes (both_ends may) 0 start s ≡ true → All (λ r. may r ≡ true) (start ∷ s)
+stands_all : (may : ℕ → Bool) (n start : ℕ) (s : List ℕ) → 1 ≤ n → length s ≡ n → passes (both_ends may) 0 start s ≡ true → AllByRecursion (λ r. may r ≡ true) (start ∷ s)
 stands_all may n start [] l e h = absurd (omega arith)
 stands_all may n start (q ∷ s) l e h = passes_stands may 0 start q s h
 

@@ -1,7 +1,7 @@
 -- The sides of a place, one after another.
 use Rattle.std.proofs.Common.{◌≡◌, ℕ, ◌+◌, ◌<◌, ◌≤◌, Bool, true, false, List, [], ◌∷◌, ◌++◌, get_or, drop, Some, None, sym, refl, ap, ◌∙◌, ap₂}
 use Rattle.std.specs.Option.{option_to_list}
-use Rattle.std.specs.List.{flat_map, AllByRecursion as All}
+use Rattle.std.specs.List.{flat_map, AllByRecursion}
 use Rattle.std.proofs.lemmas.List.{at_drop_more, at_drop_all}
 use Rattle.std.proofs.lemmas.Bool.{cond-true, cond-false}
 use Rattle.grid.specs.declared.moves.Move.{Move}
@@ -32,7 +32,7 @@ pub sides_end : (p k : ℕ) → 5 ≤ k → sides_from p k ≡ []
 sides_end p k l = at_drop_all (flat_map (λ m. option_to_list (side p m))) every_move k l
 
 -- a step leads to a place
-pub next_below : (p : ℕ) → All (λ q. q < 256) (next p)
+pub next_below : (p : ℕ) → AllByRecursion (λ q. q < 256) (next p)
 next_below p = all_from_in (λ q. q < 256) (next p) (λ q h. ((next_places p).sound q h).1.to)
 
 -- the first place on a side that passes a test, side by side

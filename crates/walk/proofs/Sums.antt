@@ -1,14 +1,14 @@
 -- The laws of a sum over a list.
 use Rattle.std.proofs.Common.{◌≡◌, Bool, true, false, cond, List, [], ◌∷◌, ◌++◌, map, filter, sym, refl, ap, ◌∙◌, ap₂}
 use mathlib.Core.Path.{fun_ext}
-use Rattle.std.specs.List.{flat_map, AllByRecursion as All}
+use Rattle.std.specs.List.{flat_map, AllByRecursion}
 use Rattle.walk.specs.Semiring.{Ops, Laws, summed}
 
 -- a sum of equal terms
 pub summed_same : {A W : Type 0} (o : Ops W) (f g : A → W) (xs : List A) → ((x : A) → f x ≡ g x) → summed o f xs ≡ summed o g xs
 summed_same o f g xs h = ap (λ k. summed o k xs) (fun_ext h)
 
-pub summed_same_at : {A W : Type 0} (o : Ops W) (f g : A → W) (xs : List A) → All (λ x. f x ≡ g x) xs → summed o f xs ≡ summed o g xs
+pub summed_same_at : {A W : Type 0} (o : Ops W) (f g : A → W) (xs : List A) → AllByRecursion (λ x. f x ≡ g x) xs → summed o f xs ≡ summed o g xs
 summed_same_at o f g [] h = refl
 summed_same_at o f g (x ∷ xs) h = ap₂ o.add h.0 (summed_same_at o f g xs h.1)
 

@@ -1,6 +1,6 @@
 -- The steps of one sled on a floor, by the places where it may stand.
 use Rattle.std.specs.Prelude.{◌≡◌, ℕ, ◌≤◌, Bool, true, false, ◌&&◌, List, ◌∷◌, length, slice_index_or}
-use Rattle.std.specs.List.{AllByRecursion as All}
+use Rattle.std.specs.List.{AllByRecursion}
 use Rattle.walk.specs.Plain.{Stepwise, Route}
 use Rattle.walk.specs.Sequences.{end}
 
@@ -16,7 +16,7 @@ both_ends may t p q = may p && may q
 pub record SledRoute (may : ℕ → Bool) (n start goal : ℕ) (s : List ℕ) : Type 0 where
   pub long : length s ≡ n
   pub stepwise : Stepwise start s
-  pub standing : All (λ p. may p ≡ true) (start ∷ s)
+  pub standing : AllByRecursion (λ p. may p ≡ true) (start ∷ s)
   pub ends : end start s ≡ goal
 
 -- the routes by allowed steps are the routes of the sled
