@@ -93,7 +93,10 @@ impl Deck {
         ensures { Answers R.SplitRule.sets search.now self.old self.new Call.Release (Some slip) result.answer result.hand }
     {
         match self.release(search) {
-            Ok(second) => Step::holding(Answer::Released(second.numbers()), second),
+            Ok(second) => {
+                slip.spend();
+                Step::holding(Answer::Released(second.numbers()), second)
+            }
             Err(fault) => Step::holding(Answer::Refused(fault), slip),
         }
     }

@@ -70,7 +70,7 @@ impl Deck {
     {
         match self.recall(slip) {
             Ok(()) => {}
-            Err(Returned { fault: _, slip: _ }) => unreachable(),
+            Err(Returned { fault: _, slip }) => slip.spend(),
         }
     }
 }

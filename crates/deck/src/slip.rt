@@ -4,26 +4,13 @@ ghost use Rattle.deck.specs.Slips.{numbers_of, GoesOnward};
 
 use fault::cause::{Cause, Fault};
 
-// One run of a deck: the deck's name, the number of the run, the instant that it is at, and its last. Nobody can meet what its `drop`
-// requires, and its fields are the crate's own, so only `finish` and `recall` can take it.
+// One run of a deck: the deck's name, the number of the run, the instant that it is at, and its last. It is not `Drop`, and its fields are
+// the crate's own, so only `finish` and `recall` can take it.
 pub struct Slip {
     pub(crate) name: u16,
     pub(crate) run: u16,
     pub(crate) instant: u8,
     pub(crate) last: u8,
-}
-
-impl Drop for Slip {
-    fn drop(self)
-        requires { ⊥ }
-    {
-        let Slip {
-            name: _,
-            run: _,
-            instant: _,
-            last: _,
-        } = self;
-    }
 }
 
 // What a slip says, to be kept and compared.

@@ -20,7 +20,7 @@ use Rattle.split.specs.declared.pair.Side.{Side}
 use Rattle.split.specs.declared.pair.Side.TheVariants.{Lower, Upper}
 use Rattle.split.specs.Situations.{Situation}
 use Rattle.split.specs.Rules.{single_sets, shared_cell_sets}
-use Rattle.walk.specs.Examples.{Example, corner, too_soon, just_in_time, Holds as Route-holds}
+use Rattle.walk.specs.Examples.{Example, corner, too_soon, just_in_time, Holds as RouteHolds}
 use Rattle.tree.specs.Tree.{Tree, Verdict, working, solved, none, full, turns, bound}
 use Rattle.plans.specs.Tasks.{Task}
 use Rattle.plans.specs.Instance.{setting_of, search_of}
@@ -88,7 +88,7 @@ Holds (skirted w h m count) = count_rows (skirt m (rectangle w h)) 15 ≡ count
 Holds (given w h m fault) = skirt_fault 1 (λ _. rectangle w h) 0 m ≡ fault
 Holds (shared w h u v first second) =
     (places_of (two_at w h u v) Lower ≡ map number_of first) × (places_of (two_at w h u v) Upper ≡ map number_of second)
-Holds (alone example) = Route-holds example
+Holds (alone example) = RouteHolds example
 Holds (searched horizon starts goals limit n bound' verdict) =
     let K = in_aisle horizon starts goals in
     (bound (setting_of K) (tree_after K limit n) ≡ bound') × ((tree_after K limit n).verdict ≡ verdict)
