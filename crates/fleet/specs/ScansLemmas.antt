@@ -14,7 +14,7 @@ own b = (λ e. e, λ e. e)
 pub any_told : (p : ℕ → Bool) (n : ℕ) → Decides (any_below p n) ((k : ℕ) × (k < n) × (p k ≡ true))
 any_told p n = Decides-below_or p (λ k. p k ≡ true) (any_below p) (λ k. own (p k)) refl (λ _. refl) n
 
--- some-within finds exactly the numbers within m of z
+-- some_within finds exactly the numbers within m of z
 pub within_told : (m : ℕ) (z : ℤ) (p : ℤ → Bool) → Decides (some_within m z p) ((a : ℤ) × ((z ≤ℤ (a +ℤ pos m)) × (a ≤ℤ (z +ℤ pos m))) × (p a ≡ true))
 unfolding some_within
 within_told m z p =

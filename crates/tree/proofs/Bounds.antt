@@ -1,4 +1,4 @@
--- Not-lower bounds are not lower.
+-- NotLower bounds are not lower.
 use Rattle.std.proofs.Common.{◌≡◌, ℕ, suc, ◌+◌, ◌≤◌, true, ltb, List, ◌∷◌, length, set, Some, None, Option, sym, refl, subst, arith}
 use Rattle.std.proofs.lemmas.Bool.{cond_both, true≢false}
 use Rattle.std.proofs.ByRecursion.{All-append, All-set, All-weaker}

@@ -1,6 +1,6 @@
 -- Routes from a start to a goal, and the one to take, by plain enumeration.
 -- A route is told by the places after its start. Whether the step from p at instant t to q is allowed is a question a t p q.
-use Rattle.std.specs.Prelude.{ℕ, suc, Bool, true, cond, ◌&&◌, leb, List, [], ◌∷◌, Some, None, filter, Option, ◌==◌, nat_eq, nat_le}
+use Rattle.std.specs.Prelude.{ℕ, suc, Bool, true, cond, ◌&&◌, List, [], ◌∷◌, Some, None, filter, Option, ◌==◌, nat_eq, nat_le}
 use Rattle.walk.specs.Kinds.{either_both}
 use Rattle.walk.specs.Sequences.{sequences, end, weight}
 
@@ -46,7 +46,7 @@ every f (x ∷ xs) = f x && every f xs
 
 -- the elements at which f is least
 abbrev pub cheapest : {A : Type 0} → (A → ℕ) → List A → List A
-cheapest f xs = filter (λ x. every (λ y. leb (f x) (f y)) xs) xs
+cheapest f xs = filter (λ x. every (λ y. nat_le (f x) (f y)) xs) xs
 
 -- the routes of least cost
 abbrev pub cheapest_routes : (ℕ → ℕ → ℕ → Bool) → ℕ → ℕ → ℕ → List (List ℕ)
