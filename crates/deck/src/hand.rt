@@ -95,7 +95,8 @@ impl Deck {
         match self.release(search) {
             Ok(second) => {
                 slip.spend();
-                Step::holding(Answer::Released(second.numbers()), second)
+                second.spend();
+                unreachable()
             }
             Err(fault) => Step::holding(Answer::Refused(fault), slip),
         }

@@ -70,7 +70,10 @@ impl Deck {
     {
         match self.recall(slip) {
             Ok(()) => {}
-            Err(Returned { fault: _, slip }) => slip.spend(),
+            Err(Returned { fault: _, slip }) => {
+                slip.spend();
+                unreachable()
+            }
         }
     }
 }

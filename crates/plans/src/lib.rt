@@ -26,10 +26,16 @@ pub fn trees_are_of_tasks() -> u8
 pub fn plans_are_of_tasks() -> u8
     ensures numbered { PlansAreNumbered }
     ensures placed { PlansArePlaced }
-    ensures makespans { MakespansCarryOver }
     ensures bounds { BoundsCarryOver }
     ensures least { LeastSumsCarryOver }
     ensures none { NoPlanCarriesOver }
+{
+    0
+}
+
+// And they last as long.
+pub fn makespans_are_of_tasks() -> u8
+    ensures { MakespansCarryOver }
 {
     0
 }
