@@ -11,7 +11,7 @@ use Rattle.fleet.specs.Scans.{any_below, some_within, some_near, in_row, some_of
 own : (b : Bool) → Decides b (b ≡ true)
 own b = (λ e. e, λ e. e)
 
-pub any_told : (p : ℕ → Bool) (n : ℕ) → Decides (any_below p n) ((k : ℕ) × (k < n) × (p k ≡ true))
+any_told : (p : ℕ → Bool) (n : ℕ) → Decides (any_below p n) ((k : ℕ) × (k < n) × (p k ≡ true))
 any_told p n = Decides-below_or p (λ k. p k ≡ true) (any_below p) (λ k. own (p k)) refl (λ _. refl) n
 
 -- some_within finds exactly the numbers within m of z
@@ -26,20 +26,15 @@ within_told m z p =
           told.1 (k, omega (arith, ints), rw is hit),
     )
 
+none_below : (p : ℕ → Bool) (n : ℕ) → ((j : ℕ) → j < n → p j ≡ false) → any_below p n ≡ false
+none_below p n none =
+    ⊎_elim (λ e. let (k, below, hit) = (any_told p n).0 e in absurd (both_ways _ (none k below) hit)) (λ e. e) (cases_Bool (any_below p n))
+
 pub within_none : (m : ℕ) (z : ℤ) (p : ℤ → Bool) → ((k : ℕ) → k < 2 * m + 1 → p (pos k -ℤ pos m +ℤ z) ≡ false) → some_within m z p ≡ false
 unfolding some_within
-within_none m z p none =
-    ⊎_elim (λ e. let (k, below, hit) = (any_told (λ k. p (pos k -ℤ pos m +ℤ z)) (2 * m + 1)).0 e in absurd (both_ways _ (none k below) hit)) (λ e. e)
-    (cases_Bool (any_below (λ k. p (pos k -ℤ pos m +ℤ z)) (2 * m + 1)))
+within_none m z p none = none_below (λ k. p (pos k -ℤ pos m +ℤ z)) (2 * m + 1) none
 
-pub within_found : (m : ℕ) (z : ℤ) (p : ℤ → Bool) (k : ℕ) → k < 2 * m + 1 → p (pos k -ℤ pos m +ℤ z) ≡ true → some_within m z p ≡ true
-unfolding some_within
-within_found m z p k below hit = (any_told (λ k. p (pos k -ℤ pos m +ℤ z)) (2 * m + 1)).1 (k, below, hit)
-
-pub within_self : (m : ℕ) (z : ℤ) (p : ℤ → Bool) → p z ≡ true → some_within m z p ≡ true
-within_self m z p hit = (within_told m z p).1 (z, (omega (arith, ints), omega (arith, ints)), hit)
-
-pub first_told : (p : ℕ → Bool) (n : ℕ) → any_below p n ≡ true → (first_below p n < n) × (p (first_below p n) ≡ true)
+first_told : (p : ℕ → Bool) (n : ℕ) → any_below p n ≡ true → (first_below p n < n) × (p (first_below p n) ≡ true)
 first_told p zero h = absurd (false≢true h)
 first_told p (suc n) h =
     ⊎_elim
@@ -47,11 +42,7 @@ first_told p (suc n) h =
     (λ e. rw (cond-false (any_below p n) (first_below p n) n e) (omega arith, ⊎_elim (λ here. here) (λ f. absurd (both_ways _ e f)) (or_cases (p n) (any_below p n) h)))
     (cases_Bool (any_below p n))
 
-none_below : (p : ℕ → Bool) (n : ℕ) → ((j : ℕ) → j < n → p j ≡ false) → any_below p n ≡ false
-none_below p n none =
-    ⊎_elim (λ e. let (k, below, hit) = (any_told p n).0 e in absurd (both_ways _ (none k below) hit)) (λ e. e) (cases_Bool (any_below p n))
-
-pub first_is : (p : ℕ → Bool) (n k : ℕ) → k < n → p k ≡ true → ((j : ℕ) → j < k → p j ≡ false) → first_below p n ≡ k
+first_is : (p : ℕ → Bool) (n k : ℕ) → k < n → p k ≡ true → ((j : ℕ) → j < k → p j ≡ false) → first_below p n ≡ k
 first_is p zero k below hit none = absurd (omega arith)
 first_is p (suc n) k below hit none =
     ⊎_elim

@@ -43,12 +43,8 @@ fn any_within<T: Fn(i8) -> bool>(test: T, m: u8, z: i8) -> bool
     requires near { Near z }
     ensures { (set : ℤ → Bool) → TellsWithin m z (T.post test) set → result ≡ some_within m z set }
 {
-    for k in 0..2 * m + 1 {
-        if test(shifted(z, k, m)) {
-            return true;
-        }
-    }
-    false
+    let far = m as i8;
+    (z - far..=z + far).any(|a| test(a))
 }
 
 // The first offset that passes, by row and then column.
@@ -66,23 +62,8 @@ fn first_near<T: Fn(i8) -> bool>(test: T) -> Option<i8>
     requires { T.IsAlwaysCallable test }
     ensures { (set : ℤ → Bool) → TellsWithin 7 (pos 0) (T.post test) set → FirstNear set result }
 {
-    for k in 0..2 * REACH + 1 {
-        let z = shifted(0, k, REACH);
-        if test(z) {
-            return Some(z);
-        }
-    }
-    None
-}
-
-// The number k places up from z - m.
-fn shifted(z: i8, k: u8, m: u8) -> i8
-    requires near { Near z }
-    requires narrow { m ≤ 7 }
-    requires within { k ≤ 2 * m }
-    ensures { result ≡ (pos k -ℤ pos m) +ℤ z }
-{
-    k as i8 - m as i8 + z
+    let far = REACH as i8;
+    (-far..=far).find(|&z| test(z))
 }
 
 // Whether z lies from -n to n.
