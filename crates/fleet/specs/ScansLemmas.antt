@@ -6,12 +6,12 @@ use Rattle.std.proofs.lemmas.Bool.{both_ways, cases_Bool, cases_lt, cond-true, c
 use Rattle.std.proofs.lemmas.Int.{ints}
 use Rattle.std.proofs.lemmas.Bool.Decides.{Decides-below_or}
 use Rattle.fleet.specs.Offsets.{Offsets, Near}
-use Rattle.fleet.specs.Scans.{any_below, some_within, some_near, in_row, some_offset, first_below, first_near}
+use Rattle.fleet.specs.Scans.{any_below, some_within, some_near, in_row, some_offset, first_below, first_near, Within, Tells, TellsBeside, TellsRow}
 
 own : (b : Bool) → Decides b (b ≡ true)
 own b = (λ e. e, λ e. e)
 
-pub any_told : (p : ℕ → Bool) (n : ℕ) → Decides (any_below p n) ((k : ℕ) × (k < n) × (p k ≡ true))
+any_told : (p : ℕ → Bool) (n : ℕ) → Decides (any_below p n) ((k : ℕ) × (k < n) × (p k ≡ true))
 any_told p n = Decides-below_or p (λ k. p k ≡ true) (any_below p) (λ k. own (p k)) refl (λ _. refl) n
 
 -- some_within finds exactly the numbers within m of z
@@ -26,20 +26,15 @@ within_told m z p =
           told.1 (k, omega (arith, ints), rw is hit),
     )
 
+none_below : (p : ℕ → Bool) (n : ℕ) → ((j : ℕ) → j < n → p j ≡ false) → any_below p n ≡ false
+none_below p n none =
+    ⊎_elim (λ e. let (k, below, hit) = (any_told p n).0 e in absurd (both_ways _ (none k below) hit)) (λ e. e) (cases_Bool (any_below p n))
+
 pub within_none : (m : ℕ) (z : ℤ) (p : ℤ → Bool) → ((k : ℕ) → k < 2 * m + 1 → p (pos k -ℤ pos m +ℤ z) ≡ false) → some_within m z p ≡ false
 unfolding some_within
-within_none m z p none =
-    ⊎_elim (λ e. let (k, below, hit) = (any_told (λ k. p (pos k -ℤ pos m +ℤ z)) (2 * m + 1)).0 e in absurd (both_ways _ (none k below) hit)) (λ e. e)
-    (cases_Bool (any_below (λ k. p (pos k -ℤ pos m +ℤ z)) (2 * m + 1)))
+within_none m z p none = none_below (λ k. p (pos k -ℤ pos m +ℤ z)) (2 * m + 1) none
 
-pub within_found : (m : ℕ) (z : ℤ) (p : ℤ → Bool) (k : ℕ) → k < 2 * m + 1 → p (pos k -ℤ pos m +ℤ z) ≡ true → some_within m z p ≡ true
-unfolding some_within
-within_found m z p k below hit = (any_told (λ k. p (pos k -ℤ pos m +ℤ z)) (2 * m + 1)).1 (k, below, hit)
-
-pub within_self : (m : ℕ) (z : ℤ) (p : ℤ → Bool) → p z ≡ true → some_within m z p ≡ true
-within_self m z p hit = (within_told m z p).1 (z, (omega (arith, ints), omega (arith, ints)), hit)
-
-pub first_told : (p : ℕ → Bool) (n : ℕ) → any_below p n ≡ true → (first_below p n < n) × (p (first_below p n) ≡ true)
+first_told : (p : ℕ → Bool) (n : ℕ) → any_below p n ≡ true → (first_below p n < n) × (p (first_below p n) ≡ true)
 first_told p zero h = absurd (false≢true h)
 first_told p (suc n) h =
     ⊎_elim
@@ -47,11 +42,7 @@ first_told p (suc n) h =
     (λ e. rw (cond-false (any_below p n) (first_below p n) n e) (omega arith, ⊎_elim (λ here. here) (λ f. absurd (both_ways _ e f)) (or_cases (p n) (any_below p n) h)))
     (cases_Bool (any_below p n))
 
-none_below : (p : ℕ → Bool) (n : ℕ) → ((j : ℕ) → j < n → p j ≡ false) → any_below p n ≡ false
-none_below p n none =
-    ⊎_elim (λ e. let (k, below, hit) = (any_told p n).0 e in absurd (both_ways _ (none k below) hit)) (λ e. e) (cases_Bool (any_below p n))
-
-pub first_is : (p : ℕ → Bool) (n k : ℕ) → k < n → p k ≡ true → ((j : ℕ) → j < k → p j ≡ false) → first_below p n ≡ k
+first_is : (p : ℕ → Bool) (n k : ℕ) → k < n → p k ≡ true → ((j : ℕ) → j < k → p j ≡ false) → first_below p n ≡ k
 first_is p zero k below hit none = absurd (omega arith)
 first_is p (suc n) k below hit none =
     ⊎_elim
@@ -100,3 +91,11 @@ offset_is p e =
     let (y, near_y, row) = (within_told 7 (pos 0) (in_row 7 (pos 0) p)).0 e in
     let (x, near_x, hit) = (row_told 7 (pos 0) p y).0 row in
     (x, y, (omega (arith, ints, near_x), omega (arith, ints, near_x)), (omega (arith, ints, near_y), omega (arith, ints, near_y)), hit)
+
+-- a test tells the offsets beside (0, 0) that it tells from -7 to 7
+pub tells_beside : {answers : ℤ → ℤ → Bool → Type 0} (p : Offsets) → Tells answers p → TellsBeside 7 (pos 0) (pos 0) answers p
+tells_beside p tells x y across down = tells x y (omega (arith, ints), omega (arith, ints)) (omega (arith, ints), omega (arith, ints))
+
+pub row_is : {answers : ℤ → ℤ → Bool → Type 0} (m : ℕ) (x y : ℤ) (p : Offsets) → TellsBeside m x y answers p → (b : ℤ) → Within m y b → (r : Bool) → TellsRow m x answers b r → r ≡ in_row m x p b
+unfolding TellsRow
+row_is m x y p tells b down r told = told p (λ a across r' e. tells a b across down r' e)

@@ -1,0 +1,116 @@
+-- What a run over a range of signed numbers gives, where the last is in the range.
+use Rattle.std.proofs.Common.{◌≡◌, ℕ, zero, suc, ◌+◌, ◌-◌, ◌*◌, ◌<◌, ◌≤◌, Bool, true, false, ℤ, pos, ◌+ℤ◌, ◌-ℤ◌, List, [], ◌∷◌, length, Option, Some, None, MatchOption, MatchBool, Bor, IsTrue, sym, ap, subst, ◌∙◌, ⊎_elim, arith}
+use borrow.Author.Differences.{up, down}
+use Rattle.std.proofs.lemmas.Bool.{cases_Bool, both_ways}
+use Rattle.std.proofs.lemmas.Int.{ints}
+use Rattle.std.specs.declared.ops.RangeInclusive.{RangeInclusive}
+use Rattle.std.specs.Int.{int_gap}
+use Rattle.std.specs.List.{slice_get}
+use Rattle.std.specs.Range.{range_inclusive_start, range_inclusive_end, range_inclusive_exhausted, range_inclusive_len, range_inclusive_steps}
+use Rattle.std.specs.Iterator.{Yields}
+use Rattle.std.specs.Iterator.Runs.{Run, AllItems, AnyItemGives, AllItemsGive, CallKeepsClosure, NoItemPasses, EndsAtFirstPassing}
+use Rattle.std.specs.Fn.{Called, CalledAt}
+use denote.Param.Members.{Mut}
+use Rattle.std.specs.Option.{IsSomeAnd}
+use Rattle.std.proofs.iter.Serving.{gap_is}
+use Rattle.std.proofs.iter.runs.Made.{took, at-is}
+use Rattle.std.proofs.iter.runs.Lists.{same_Some, at_some, nth_read, slice_get_within}
+use Rattle.fleet.specs.Scans.{some_within, FirstNear, Within, TellsWithin}
+use Rattle.fleet.specs.ScansLemmas.{within_told, near_first_is}
+
+abbrev left : RangeInclusive ℤ → ℕ
+left s = range_inclusive_len int_gap (range_inclusive_start s) (range_inclusive_end s) (range_inclusive_exhausted s)
+
+abbrev pub signed_steps : RangeInclusive ℤ → Option ℤ → RangeInclusive ℤ → Type 0
+signed_steps = range_inclusive_steps int_gap (λ x y. y ≡ x +ℤ pos 1)
+
+-- the numbers come one after another, from a on
+abbrev Counts : List ℤ → ℤ → Type 0
+Counts xs a = (k : ℕ) → MatchOption (slice_get xs k) (Unit {0}) (λ x. x ≡ a +ℤ pos k)
+
+spent : (s : RangeInclusive ℤ) → range_inclusive_exhausted s ≡ true → left s ≡ 0
+spent s e = ap (range_inclusive_len int_gap (range_inclusive_start s) (range_inclusive_end s)) e
+
+counted : (xs : List ℤ) (s t : RangeInclusive ℤ) → Yields signed_steps s xs t → (left t + length xs ≡ left s) × Counts xs (range_inclusive_start s)
+counted [] s t y = (omega (arith, ap left y), λ k. tt)
+counted (x ∷ xs) s t y = let (fewer, places) = counted xs y.0 t y.2 in (omega (arith, fewer, y.1.1.1), at fewer places)
+  where
+    at : left t + length xs ≡ left y.0 → Counts xs (range_inclusive_start y.0) → Counts (x ∷ xs) (range_inclusive_start s)
+    at fewer places zero = omega (arith, ints, y.1.1.0)
+    at fewer places (suc k) = at_some (slice_get xs k) _ (λ v e.
+        ⊎_elim
+        (λ over. absurd (omega (arith, spent y.0 over, fewer, slice_get_within xs k v e)))
+        (λ more. let here = subst (λ o. MatchOption o (Unit {0}) (λ x. x ≡ range_inclusive_start y.0 +ℤ pos k)) e (places k) in omega (arith, ints, here, y.1.1.2 more))
+        (cases_Bool (range_inclusive_exhausted y.0)))
+
+turned : (k : ℕ) → pos 0 -ℤ pos 7 +ℤ pos k ≡ pos k -ℤ pos 7 +ℤ pos 0
+turned k = omega (arith, ints)
+
+abbrev Over : Run signed_steps → ℕ → ℤ → Type 0
+Over p m z = (range_inclusive_start p.from ≡ z -ℤ pos m) × (range_inclusive_end p.from ≡ z +ℤ pos m) × (range_inclusive_exhausted p.from ≡ false)
+
+-- a run over the numbers from z - m to z + m
+module _ (p : Run signed_steps) (m : ℕ) (z : ℤ) (over : Over p m z) where
+  many : left p.from ≡ 2 * m + 1
+  many = rw (over.0, over.1, over.2) (omega (arith, ints, gap_is (z -ℤ pos m) (z +ℤ pos m), gap_is (z +ℤ pos m) (z -ℤ pos m)))
+
+  short : p.len ≤ 2 * m + 1
+  short = omega (arith, p.long, many, (counted p.items p.from (took p).0 (took p).1).0)
+
+  whole : p.whole ≡ true → p.len ≡ 2 * m + 1
+  whole w = omega (arith, p.long, many, (counted p.items p.from (took p).0 (took p).1).0, ((took p).2 w).1.1.0)
+
+  place : (k : ℕ) → k < p.len → p.at k ≡ Some (z -ℤ pos m +ℤ pos k)
+  place k below =
+      let read = nth_read p.items k (pos 0) (omega (arith, p.long)) in
+      let is = subst (λ o. MatchOption o (Unit {0}) (λ x. x ≡ range_inclusive_start p.from +ℤ pos k)) read ((counted p.items p.from (took p).0 (took p).1).1 k) in
+      at-is p k ∙ read ∙ ap Some (rw over.0 at is)
+
+  inside : (k : ℕ) → k < p.len → Within m z (z -ℤ pos m +ℤ pos k)
+  inside k below = (omega (arith, ints, short), omega (arith, ints, short))
+
+  each : (P : ℤ → Type 0) (k : ℕ) → k < p.len → MatchOption (p.at k) (Unit {0}) P → P (z -ℤ pos m +ℤ pos k)
+  each P k below h = subst (λ o. MatchOption o (Unit {0}) P) (place k below) h
+
+  one : (P : ℤ → Type 0) (k : ℕ) → k < p.len → IsSomeAnd (p.at k) P → P (z -ℤ pos m +ℤ pos k)
+  one P k below h = subst (λ o. IsSomeAnd o P) (place k below) h
+
+  module _ (answers : ℤ → Bool → Type 0) (set : ℤ → Bool) (tells : TellsWithin m z answers set) where
+    told : (k : ℕ) → k < p.len → (r : Bool) → answers (z -ℤ pos m +ℤ pos k) r → set (z -ℤ pos m +ℤ pos k) ≡ r
+    told k below r h = sym (tells _ (inside k below) r h)
+
+    some : (k : ℕ) → k < p.len → IsSomeAnd (p.at k) (λ x. answers x true) → some_within m z set ≡ true
+    some k below h = (within_told m z set).1 (z -ℤ pos m +ℤ pos k, inside k below, told k below true (one _ k below h))
+
+    none : IsTrue p.whole → AllItems p (λ x. answers x false) → some_within m z set ≡ false
+    none w all =
+        ⊎_elim
+        (λ e.
+        let (a, near, hit) = (within_told m z set).0 e in
+        let k : ℕ = up a + m + down z - (down a + up z) in
+        let below : k < p.len = omega (arith, ints, near, whole w) in
+        let is : z -ℤ pos m +ℤ pos k ≡ a = omega (arith, ints, near) in
+        absurd (both_ways _ (rw is at (told k below false (each _ k below (all k)))) hit))
+        (λ e. e)
+        (cases_Bool (some_within m z set))
+
+module _ (p : Run signed_steps) (set : ℤ → Bool) {F : Type 0} where
+  -- what `any` answers over the numbers from z - m to z + m
+  pub any_is : (m : ℕ) (z : ℤ) → Over p m z → (g : Mut F (ℤ × Unit {0}) Bool) (f : F) → CallKeepsClosure g f → TellsWithin m z (λ x r. Called g f (x, tt) r f) set
+      → (r : Bool) → MatchBool r (AnyItemGives p g f true) (IsTrue p.whole × AllItemsGive p g f false) → r ≡ some_within m z set
+  any_is m z over g f keeps tells true h = let (k, below, hit) = h keeps in sym (some p m z over _ set tells k below hit)
+  any_is m z over g f keeps tells false h = sym (none p m z over _ set tells h.0 (h.1 keeps))
+
+  -- what `find` answers over the numbers from -7 to 7
+  pub find_is : Over p 7 (pos 0) → (g : Mut F (Bor ℤ × Unit {0}) Bool) (f : F) → CallKeepsClosure g f → TellsWithin 7 (pos 0) (λ x r. CalledAt g f x r f) set
+      → (o : Option ℤ) → MatchOption o (IsTrue p.whole × NoItemPasses p g f) (EndsAtFirstPassing p g f) → FirstNear set o
+  find_is over g f keeps tells None h = none p 7 (pos 0) over _ set tells h.0 (h.1 keeps)
+  find_is over g f keeps tells (Some x) (i, len, at, ends) =
+      let (hit, before) = ends keeps in
+      let below : i < p.len = omega (arith, len) in
+      let passed = subst (λ o. IsSomeAnd o (λ x. CalledAt g f x true f)) (sym at) hit in
+      let is : x ≡ pos i -ℤ pos 7 +ℤ pos 0 = omega (arith, ints, same_Some x _ (sym at ∙ place p 7 (pos 0) over i below)) in (
+        some p 7 (pos 0) over _ set tells i below passed,
+        is ∙ near_first_is set i (omega (arith, short p 7 (pos 0) over)) (rw (turned i) at (told p 7 (pos 0) over _ set tells i below true (one p 7 (pos 0) over _ i below passed)))
+            (λ j h. let low : j < p.len = omega arith in rw (turned j) at (told p 7 (pos 0) over _ set tells j low false (one p 7 (pos 0) over _ j low (before j h)))),
+      )
