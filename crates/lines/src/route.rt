@@ -30,7 +30,7 @@ fn put_place(text: &mut Text, number: u8)
     ensures text { Appends text.old (place_text number) text.new }
     ensures short { length (place_text number) ≤ 6 }
 {
-    let place = Place::from_number(number);
+    let place = Place::from(number);
     text.put(b" ");
     text.put_number(usize::from(place.column));
     text.put(b",");

@@ -18,7 +18,7 @@ pub fn standing_places<'a, F: Fleet>(
 {
     let mut stands = [false; BOARD_PLACES];
     for number in 0..BOARD_PLACES {
-        stands[number] = may_stand(fleet, sled, floor, Place::from_number(number as u8));
+        stands[number] = may_stand(fleet, sled, floor, Place::from(number as u8));
     }
     stands
 }

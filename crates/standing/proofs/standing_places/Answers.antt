@@ -15,7 +15,7 @@ loop-number-preserved g c =
       simp length-set c.loop-number.invariant.0,
       below_more _ _
           (λ k h. let ne : k ≢ i = omega arith in rw get_or-set_other (c.loop-number.invariant.1 k h))
-          (rw get_or-set_same (c.may_stand.ensures.value ∙ ap (may_stand (g.F.Fleet.offsets c.args.fleet.now c.args.sled) c.args.floor.now) c.from_number.ensures.place)),
+          (rw get_or-set_same (c.may_stand.ensures.value ∙ ap (may_stand (g.F.Fleet.offsets c.args.fleet.now c.args.sled) c.args.floor.now) c.from.ensures.place)),
     )
 
 pub returns : goal.returns
