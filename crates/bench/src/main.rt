@@ -4,6 +4,7 @@
 use std::time::Instant;
 use std::{env, io};
 use walk::count::Count;
+use walk::errand::Errand;
 use walk::horizon::Horizon;
 use walk::route::first_route;
 use walk::standing::Standing;
@@ -13,47 +14,34 @@ const REPEATS: u32 = 1000;
 
 const LONGEST: Horizon = Horizon { steps: 63 };
 
-// A sled that may stand in so many columns and rows, counted from the top left.
-fn open_floor(columns: usize, rows: usize) -> Standing {
-    let mut at = [false; 256];
-    for place in 0..256 {
-        at[place] = place % 16 < columns && place / 16 < rows;
-    }
-    Standing { at }
+fn cost(sled: &Standing, errand: Errand) -> u64 {
+    first_route(sled, errand).map_or(0, |found| u64::from(found.cost))
 }
 
-fn cost(sled: &Standing, start: u8, goal: u8) -> u64 {
-    match first_route(sled, start, goal, LONGEST) {
-        Some(found) => u64::from(found.cost),
-        None => 0,
-    }
-}
-
-fn count(sled: &Standing, start: u8, goal: u8) -> u64 {
+fn count(sled: &Standing, errand: Errand) -> u64 {
     let mut row = [Count { value: 0 }; 256];
     let mut spare = [Count { value: 0 }; 256];
-    match count_routes(sled, start, goal, LONGEST, &mut row, &mut spare) {
-        Ok(number) => u64::from(number),
-        Err(_) => 0,
-    }
+    count_routes(sled, errand, &mut row, &mut spare).map_or(0, u64::from)
 }
 
-// From the top left to a corner and back, again and again: the sum of the costs.
-fn costs(sled: &Standing, corner: u8) -> u64 {
+// From the top left to a corner and back, again and again: the sum of the figures.
+fn summed<F: Fn(Errand) -> u64>(corner: u8, figure: F) -> u64
+    requires { F.IsAlwaysCallable figure }
+{
+    let there = Errand {
+        start: 0,
+        goal: corner,
+        horizon: LONGEST,
+    };
+    let back = Errand {
+        start: corner,
+        goal: 0,
+        horizon: LONGEST,
+    };
     let mut sum: u64 = 0;
     for _ in 0..REPEATS / 2 {
-        sum = sum.wrapping_add(cost(sled, 0, corner));
-        sum = sum.wrapping_add(cost(sled, corner, 0));
-    }
-    sum
-}
-
-// The sum of the counts.
-fn counts(sled: &Standing, corner: u8) -> u64 {
-    let mut sum: u64 = 0;
-    for _ in 0..REPEATS / 2 {
-        sum = sum.wrapping_add(count(sled, 0, corner));
-        sum = sum.wrapping_add(count(sled, corner, 0));
+        sum = sum.wrapping_add(figure(there));
+        sum = sum.wrapping_add(figure(back));
     }
     sum
 }
@@ -68,25 +56,20 @@ fn show(rt: &HostRuntime, what: &str, sum: u64, start: Instant, timed: bool) -> 
 }
 
 fn main(rt: HostRuntime) -> io::Result<()> {
-    let mut timed = false;
-    for word in env::args(&rt)? {
-        timed = timed || word.as_str() == "--time";
-    }
-    let small = open_floor(16, 16);
-    let large = open_floor(9, 9);
-    let shut = open_floor(16, 15);
+    let timed = env::args(&rt)?.any(|word| word.as_str() == "--time");
+    let small = Standing::open(16, 16);
+    let large = Standing::open(9, 9);
+    let shut = Standing::open(16, 15);
     let start = Instant::now(&rt)?;
-    show(&rt, "first route, 1 by 1", costs(&small, 255), start, timed)?;
+    let sum = summed(255, |errand| cost(&small, errand));
+    show(&rt, "first route, 1 by 1", sum, start, timed)?;
     let start = Instant::now(&rt)?;
-    show(&rt, "first route, 8 by 8", costs(&large, 136), start, timed)?;
+    let sum = summed(136, |errand| cost(&large, errand));
+    show(&rt, "first route, 8 by 8", sum, start, timed)?;
     let start = Instant::now(&rt)?;
-    show(&rt, "no route, 1 by 1", costs(&shut, 255), start, timed)?;
+    let sum = summed(255, |errand| cost(&shut, errand));
+    show(&rt, "no route, 1 by 1", sum, start, timed)?;
     let start = Instant::now(&rt)?;
-    show(
-        &rt,
-        "route count, 1 by 1",
-        counts(&small, 255),
-        start,
-        timed,
-    )
+    let sum = summed(255, |errand| count(&small, errand));
+    show(&rt, "route count, 1 by 1", sum, start, timed)
 }

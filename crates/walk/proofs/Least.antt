@@ -1,5 +1,5 @@
 -- The first route of least cost, by the least instant at which the goal can be reached and kept.
-use Rattle.std.proofs.Common.{◌≡◌, ℕ, zero, suc, ◌+◌, ◌-◌, ◌<◌, ◌≤◌, Bool, true, false, cond, ◌&&◌, eqb, List, [], ◌∷◌, length, drop, Some, None, filter, sym, refl, ap, ◌∙◌, ⊎_elim, arith}
+use Rattle.std.proofs.Common.{◌≡◌, ℕ, zero, suc, ◌+◌, ◌-◌, ◌<◌, ◌≤◌, Bool, true, false, cond, ◌&&◌, eqb, List, [], ◌∷◌, length, drop, find, Some, None, filter, sym, refl, ap, ◌∙◌, ⊎_elim, arith}
 use Rattle.std.specs.List.{AllByRecursion}
 use Rattle.std.proofs.ByRecursion.{All-weaker}
 use Rattle.std.proofs.lemmas.Bool.{cases_Bool, cases_lt, eqb-true, eq-eqb, and_parts, and_from, both_ways}
@@ -8,7 +8,7 @@ use Rattle.walk.specs.Laws.{capped_laws, same_count}
 use Rattle.walk.specs.Semiring.{summed}
 use Rattle.walk.specs.Sequences.{sequences, end, total}
 use Rattle.walk.specs.Routes.{passes, routes, settled, cost, least, chosen, cheapest, cheapest_routes}
-use Rattle.walk.specs.Workings.{waits, arrives, first, fitting, allowance}
+use Rattle.walk.specs.Workings.{waits, arrives, fitting, allowance}
 use Rattle.walk.proofs.Adding.{more, more_is}
 use Rattle.walk.proofs.Alls.{all_kept, all_two, all_below}
 use Rattle.walk.proofs.Firsts.{first_kept, first_same, first_some, first_passes, kept_same, kept_kept, cheapest_are, none_passes, kept_none, least_first}
@@ -111,7 +111,7 @@ module _ (a : ℕ → ℕ → ℕ → Bool) (goal : ℕ) (place : goal < 256) (n
         all_kept _ (passes a 0 start) (filter (λ s. eqb (end start s) goal) (sequences n start))
         (all_kept _ (λ s. eqb (end start s) goal) (sequences n start) (All-weaker _ _ (λ s h _ pass. bound s h pass) (sequences n start) early))
 
-    first_cheapest : first (λ s. eqb (costs s) c) (routes a n start goal) ≡ fitting a goal c n start
+    first_cheapest : find (λ s. eqb (costs s) c) (routes a n start goal) ≡ fitting a goal c n start
     first_cheapest =
         first_kept (λ s. eqb (costs s) c) (passes a 0 start) (filter (λ s. eqb (end start s) goal) (sequences n start))
         ∙ first_kept (λ s. passes a 0 start s && eqb (costs s) c) (λ s. eqb (end start s) goal) (sequences n start)

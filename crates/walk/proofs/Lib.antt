@@ -12,3 +12,4 @@ pub mod Sums
 pub mod Totals
 pub mod Trails
 pub mod Turned
+pub mod Made

@@ -1,5 +1,5 @@
 -- Which places a goal can be reached from, and the first sequence that does.
-use Rattle.std.proofs.Common.{◌≡◌, ℕ, zero, suc, ◌+◌, ◌-◌, ◌<◌, ◌≤◌, Bool, true, false, cond, ◌&&◌, eqb, List, [], ◌∷◌, map, replicate, Some, None, Option, sym, refl, ap, ◌∙◌, ap₂, arith}
+use Rattle.std.proofs.Common.{◌≡◌, ℕ, zero, suc, ◌+◌, ◌-◌, ◌<◌, ◌≤◌, Bool, true, false, cond, ◌&&◌, eqb, List, [], ◌∷◌, map, replicate, find, Some, None, Option, sym, refl, ap, ◌∙◌, ap₂, arith}
 use mathlib.Core.Path.{fun_ext}
 use Rattle.std.specs.Option.{option_map}
 use Rattle.std.proofs.lemmas.Bool.{eqb-true, eq-eqb, and_parts, and_from}
@@ -8,7 +8,7 @@ use Rattle.walk.specs.Kinds.{either_both}
 use Rattle.walk.specs.Laws.{either_both_laws}
 use Rattle.walk.specs.Semiring.{summed}
 use Rattle.walk.specs.Sequences.{sequences, total}
-use Rattle.walk.specs.Workings.{first, waits}
+use Rattle.walk.specs.Workings.{waits}
 use Rattle.walk.proofs.Adding.{more}
 use Rattle.walk.proofs.Firsts.{first_map, first_joined, first_passes, first_some}
 use Rattle.walk.proofs.Fits.{fits, fits_more, fits_here, fitting_weight, wait_weight, reach_weight}
@@ -65,10 +65,10 @@ module _ (a : ℕ → ℕ → ℕ → Bool) (goal : ℕ) where
 
     -- the first sequence that fits
     abbrev pub first_fits : ℕ → ℕ → ℕ → ℕ → Option (List ℕ)
-    first_fits k n t p = first (fits a goal k t p) (sequences n p)
+    first_fits k n t p = find (fits a goal k t p) (sequences n p)
 
     -- Where the goal can be kept, the first sequence goes to the first place from which the goal can be reached.
-    pub first_step : (k m t p q : ℕ) → waits a goal (t + suc k) m ≡ true → first (λ r. a t p r && reach k (t + 1) r) (next p) ≡ Some q
+    pub first_step : (k m t p q : ℕ) → waits a goal (t + suc k) m ≡ true → find (λ r. a t p r && reach k (t + 1) r) (next p) ≡ Some q
         → first_fits (suc k) (suc (more k m)) t p ≡ option_map (λ s. q ∷ s) (first_fits k (more k m) (t + 1) q)
     unfolding sequences
     first_step k m t p q kept e =
@@ -77,9 +77,9 @@ module _ (a : ℕ → ℕ → ℕ → Bool) (goal : ℕ) where
         summed_map either_both (fits a goal (suc k) t p) (λ s. r ∷ s) (sequences (more k m) r)
         ∙ step_fits k (more k m) t p r
         ∙ ap (λ b. a t p r && b) (reach_fits k m (t + 1) r ∙ ap (λ i. reach k (t + 1) r && waits a goal i m) (omega arith) ∙ ap (λ b. reach k (t + 1) r && b) kept ∙ and_true (reach k (t + 1) r)) in
-        first_joined (fits a goal (suc k) t p) (λ r. map (λ s. r ∷ s) (sequences (more k m) r)) (next p) q (ap (λ f. first f (next p)) (fun_ext test) ∙ e)
+        first_joined (fits a goal (suc k) t p) (λ r. map (λ s. r ∷ s) (sequences (more k m) r)) (next p) q (ap (λ f. find f (next p)) (fun_ext test) ∙ e)
         ∙ first_map (fits a goal (suc k) t p) (λ s. q ∷ s) (sequences (more k m) q)
-        ∙ ap (λ f. option_map (λ s. q ∷ s) (first f (sequences (more k m) q))) (fun_ext (λ s. fits_more a goal k t p q s ∙ ap (λ b. b && fits a goal k (t + 1) q s) allowed))
+        ∙ ap (λ f. option_map (λ s. q ∷ s) (find f (sequences (more k m) q))) (fun_ext (λ s. fits_more a goal k t p q s ∙ ap (λ b. b && fits a goal k (t + 1) q s) allowed))
 
     -- from the goal on, the first sequence stays
     pub first_stay : (m t : ℕ) → waits a goal t m ≡ true → first_fits 0 m t goal ≡ Some (replicate m goal)
@@ -100,8 +100,8 @@ module _ (a : ℕ → ℕ → ℕ → Bool) (goal : ℕ) where
         let same : x ≡ goal = eqb-true x goal (and_parts (eqb x goal) (waits a goal (t + 1) m) (and_parts (eqb goal goal && a t goal x) (eqb x goal && waits a goal (t + 1) m) passed).1).0 in
         let steps = and_parts (a t goal goal) (waits a goal (t + 1) m) kept in
         first_joined (fits a goal 0 t goal) (λ r. map (λ s. r ∷ s) (sequences m r)) (next goal) x some.1
-        ∙ ap (λ r. first (fits a goal 0 t goal) (map (λ s. r ∷ s) (sequences m r))) same
+        ∙ ap (λ r. find (fits a goal 0 t goal) (map (λ s. r ∷ s) (sequences m r))) same
         ∙ first_map (fits a goal 0 t goal) (λ s. goal ∷ s) (sequences m goal)
-        ∙ ap (λ f. option_map (λ s. goal ∷ s) (first f (sequences m goal)))
+        ∙ ap (λ f. option_map (λ s. goal ∷ s) (find f (sequences m goal)))
         (fun_ext (λ s. fits_here a goal t goal goal s ∙ ap (λ b. b && fits a goal 0 (t + 1) goal s) (and_from (eqb goal goal) (a t goal goal) here steps.0)))
         ∙ ap (option_map (λ s. goal ∷ s)) (first_stay m (t + 1) steps.1)

@@ -1,5 +1,6 @@
 -- Words of the contracts of inner functions. No public contract cites them.
-use Rattle.std.specs.Prelude.{◌≡◌, ℕ, zero, suc, ◌+◌, ◌-◌, ◌*◌, ◌<◌, ◌≤◌, Bool, true, false, cond, ◌&&◌, List, [], ◌∷◌, ◌++◌, drop, replicate, Some, None, Option, slice_index_or}
+use Rattle.std.specs.Prelude.{◌≡◌, ℕ, ◌-◌, ◌<◌, ◌≤◌, Bool, true, false, cond, ◌&&◌, List, [], ◌∷◌, ◌++◌, drop, replicate, find, Some, Option, slice_index_or}
+use Rattle.std.specs.List.{list_all, range_with_len}
 use Rattle.grid.specs.Board.{next}
 use Rattle.walk.specs.Kinds.{either_both}
 use Rattle.walk.specs.Semiring.{Ops, summed}
@@ -16,17 +17,11 @@ allowance o a t p q = cond (a t p q) o.one o.nought
 
 -- to stay at the goal for n steps from instant t is allowed
 abbrev pub waits : (ℕ → ℕ → ℕ → Bool) → ℕ → ℕ → ℕ → Bool
-waits a goal t zero = true
-waits a goal t (suc n) = a t goal goal && waits a goal (t + 1) n
+waits a goal t n = list_all (λ i. a i goal goal) (range_with_len t n)
 
 -- the goal can be reached from the start at instant k, and kept from then on to instant n
 abbrev pub arrives : (ℕ → ℕ → ℕ → Bool) → ℕ → ℕ → ℕ → ℕ → Bool
 arrives a n start goal k = total either_both a k 0 start goal && waits a goal k (n - k)
-
--- the first element that passes a test
-abbrev pub first : {A : Type 0} → (A → Bool) → List A → Option A
-first f [] = None
-first f (x ∷ xs) = cond (f x) (Some x) (first f xs)
 
 -- c is the first instant at which the goal can be reached and then kept to instant n
 pub record Earliest (a : ℕ → ℕ → ℕ → Bool) (n start goal c : ℕ) : Type 0 where
@@ -38,13 +33,13 @@ pub record Earliest (a : ℕ → ℕ → ℕ → Bool) (n start goal c : ℕ) : 
 abbrev pub Never : (ℕ → ℕ → ℕ → Bool) → ℕ → ℕ → ℕ → Type 0
 Never a n start goal = (k : ℕ) → k ≤ n → arrives a n start goal k ≡ false
 
--- a table of rows of 256: the row of number k says from which places the goal can be reached at instant c in k steps
-abbrev pub Charted : (ℕ → ℕ → ℕ → Bool) → ℕ → ℕ → List Bool → Type 0
-Charted a goal c table = (k q : ℕ) → k ≤ c → q < 256 → slice_index_or (drop (256 * k) table) q false ≡ total either_both a k (c - k) q goal
+-- a table of rows: the row of number k says from which places the goal can be reached at instant c in k steps
+abbrev pub Charted : (ℕ → ℕ → ℕ → Bool) → ℕ → ℕ → List (List Bool) → Type 0
+Charted a goal c table = (k q : ℕ) → k ≤ c → q < 256 → slice_index_or (slice_index_or table k []) q false ≡ total either_both a k (c - k) q goal
 
 -- the first sequence of n allowed steps from the start at instant 0 that is at the goal at instant c and from then on
 abbrev pub fitting : (ℕ → ℕ → ℕ → Bool) → ℕ → ℕ → ℕ → ℕ → Option (List ℕ)
-fitting a goal c n start = first (λ s. passes a 0 start s && settled goal (drop c (start ∷ s))) (sequences n start)
+fitting a goal c n start = find (λ s. passes a 0 start s && settled goal (drop c (start ∷ s))) (sequences n start)
 
 -- the places of that sequence from its start on, and the goal after them
 pub record Traced (a : ℕ → ℕ → ℕ → Bool) (n start goal c : ℕ) (places : List ℕ) : Type 0 where

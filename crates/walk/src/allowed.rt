@@ -2,7 +2,7 @@
 ghost use Rattle.std.specs.Prelude.{◌≡◌};
 ghost use Rattle.walk.specs.Workings.{allowance};
 
-use crate::weight::{Steps, Weight};
+use crate::weight::{Step, Steps, Weight};
 
 // An allowed step weighs one, any other nought.
 #[derive(Drop)]
@@ -13,8 +13,8 @@ pub(crate) struct Allowed<'a, S> {
 impl<'a, W: Weight, S: Steps<bool>> Steps<W> for Allowed<'a, S> {
     ghost step = { λ r t p q. allowance W.Weight.ops (S.Steps.step r.steps.now) t p q };
 
-    fn weight(&self, instant: u8, from: u8, to: u8) -> W {
-        if self.steps.weight(instant, from, to) {
+    fn weight(&self, taken: Step) -> W {
+        if self.steps.weight(taken) {
             W::one()
         } else {
             W::nought()

@@ -2,46 +2,40 @@
 ghost use Rattle.std.specs.Prelude.{◌≡◌, ◌-◌, ◌≤◌, MatchOption};
 ghost use Rattle.walk.specs.Workings.{waits, Earliest, Never};
 
-use crate::horizon::Horizon;
+use crate::errand::Errand;
 use crate::layers::advance;
 use crate::rows::begin;
-use crate::weight::Steps;
-use grid::place::BOARD_PLACES;
+use crate::weight::{Step, Steps};
 
 // Whether the goal may be kept at each step from an instant to the horizon.
 fn can_wait<S: Steps<bool>>(steps: &S, goal: u8, from: u8, horizon: u8) -> bool
     requires { from ≤ horizon }
     ensures { result ≡ waits (S.step steps.now) goal from (horizon - from) }
 {
-    for instant in from..horizon {
-        if !steps.weight(instant, goal, goal) {
-            return false;
-        }
-    }
-    true
+    (from..horizon).all(|instant| {
+        steps.weight(Step {
+            instant,
+            from: goal,
+            to: goal,
+        })
+    })
 }
 
 // The first instant at which the goal can be reached and then kept to the horizon.
-pub(crate) fn earliest<S: Steps<bool>>(
-    steps: &S,
-    start: u8,
-    goal: u8,
-    horizon: Horizon,
-) -> Option<u8>
-    ensures { MatchOption result (Never (S.step steps.now) horizon.steps start goal) (Earliest (S.step steps.now) horizon.steps start goal) }
+pub(crate) fn earliest<S: Steps<bool>>(steps: &S, errand: Errand) -> Option<u8>
+    ensures { MatchOption result (Never (S.step steps.now) errand.horizon.steps errand.start errand.goal) (Earliest (S.step steps.now) errand.horizon.steps errand.start errand.goal) }
 {
-    let mut row = [false; BOARD_PLACES];
-    let mut spare = [false; BOARD_PLACES];
-    begin(start, &mut row);
+    let Errand {
+        start,
+        goal,
+        horizon,
+    } = errand;
+    let mut row = begin(start);
     for instant in 0..horizon.steps {
         if row[goal as usize] && can_wait(steps, goal, instant, horizon.steps) {
             return Some(instant);
         }
-        advance(steps, instant, &mut row, &mut spare);
+        row = advance(steps, instant, &row);
     }
-    if row[goal as usize] {
-        Some(horizon.steps)
-    } else {
-        None
-    }
+    row[goal as usize].then_some(horizon.steps)
 }

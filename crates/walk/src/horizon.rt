@@ -6,7 +6,7 @@ mod calls;
 // One more than the most steps: the instants of the longest route.
 pub const MAX_INSTANTS: usize = 64;
 
-#[derive(Clone, Copy)]
+#[derive(Clone, Copy, PartialEq, Debug)]
 pub struct Horizon {
     pub steps: u8,
     ghost least: { 1 ≤ steps },

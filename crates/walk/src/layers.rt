@@ -1,77 +1,63 @@
 // The layered walk: from a start, step by step, each place gets the sum over all step sequences of the product of their step weights.
-ghost use Rattle.std.specs.Prelude.{◌≡◌, ◌≤◌, length, drop, MatchResult};
+ghost use Rattle.std.specs.Prelude.{◌≡◌, ◌<◌, MatchResult, slice_index_or};
 ghost use Rattle.walk.specs.Promises.{Refused, Walked};
-ghost use Rattle.walk.specs.Sequences.{Row};
+ghost use Rattle.walk.specs.Sequences.{total, Row};
 ghost use Rattle.walk.specs.Workings.{stepped};
 
-use crate::rows::{begin, copy};
-use crate::weight::{Steps, Weight};
+use crate::rows::{Layer, begin};
+use crate::weight::{Step, Steps, Weight};
 use fault::cause::{Cause, Fault};
 use grid::board::neighbour;
 use grid::moves::MOVES;
 use grid::place::BOARD_PLACES;
+use std::array;
 
 // What one more step makes of a row at one place: the sum over the places that a step leads from.
-pub(crate) fn gather<W: Weight + Copy, S: Steps<W>>(steps: &S, instant: u8, row: &[W], to: u8) -> W
-    requires { 256 ≤ length row.now }
+fn gather<W: Weight + Copy, S: Steps<W>>(steps: &S, instant: u8, row: &Layer<W>, to: u8) -> W
     ensures { result ≡ stepped W.ops (S.step steps.now) instant row.now to }
 {
-    let mut sum = W::nought();
-    for towards in MOVES {
-        if let Some(from) = neighbour(to, towards) {
-            sum = sum.plus(row[from as usize].times(steps.weight(instant, from, to)));
-        }
-    }
-    sum
+    MOVES
+        .iter()
+        .filter_map(|towards| neighbour(to, *towards))
+        .fold(
+            W::nought(),
+            |sum: W, from: u8|
+                ensures { result ≡ W.ops.add sum (W.ops.mul (slice_index_or row.entry.now from W.ops.nought) (S.step steps.entry.now instant from to)) }
+            {
+                let weight = steps.weight(Step { instant, from, to });
+                sum.plus(row[from as usize].times(weight))
+            },
+        )
 }
 
-// Writes into `out` what one more step makes of `row`.
-fn layer<W: Weight + Copy, S: Steps<W>>(steps: &S, instant: u8, row: &[W], out: &mut [W])
-    requires { (256 ≤ length row.now) × (256 ≤ length out.old) }
-    ensures made { Row W.ops (stepped W.ops (S.step steps.now) instant row.now) out.new }
-    ensures rest { drop 256 out.new ≡ drop 256 out.old }
-{
-    for to in 0..BOARD_PLACES {
-        out[to] = gather(steps, instant, row, to as u8);
-    }
-}
-
-// Takes `row` one step on, and writes the same into `spare`.
+// What one more step makes of a row.
 pub(crate) fn advance<W: Weight + Copy, S: Steps<W>>(
     steps: &S,
     instant: u8,
-    row: &mut [W],
-    spare: &mut [W],
-)
-    requires { (256 ≤ length row.old) × (256 ≤ length spare.old) }
-    ensures made { Row W.ops (stepped W.ops (S.step steps.now) instant row.old) row.new }
-    ensures spare_made { Row W.ops (stepped W.ops (S.step steps.now) instant row.old) spare.new }
-    ensures rest { drop 256 row.new ≡ drop 256 row.old }
-    ensures spare_rest { drop 256 spare.new ≡ drop 256 spare.old }
+    row: &Layer<W>,
+) -> Layer<W>
+    ensures { Row W.ops (stepped W.ops (S.step steps.now) instant row.now) result }
 {
-    layer(steps, instant, row, spare);
-    copy(spare, row);
+    array::from_fn(
+        |to|
+            requires { to < 256 }
+            ensures { result ≡ stepped W.ops (S.step steps.entry.now) instant row.entry.now to }
+        { gather(steps, instant, row, to as u8) },
+    )
 }
 
-// Walks `count` steps from `start`: in both rows each place then has the total over all sequences of that many steps that end there.
-pub(crate) fn walk_rows<W: Weight + Copy, S: Steps<W>>(
-    steps: &S,
-    start: u8,
-    count: u8,
-    row: &mut [W],
-    spare: &mut [W],
-)
-    requires { (256 ≤ length row.old) × (256 ≤ length spare.old) }
-    ensures { Walked W.ops (S.step steps.now) count start row.old spare.old row.new spare.new }
+// The row of `count` steps from `start`: at each place the total over all sequences of that many steps that end there.
+pub(crate) fn walk_row<W: Weight + Copy, S: Steps<W>>(steps: &S, start: u8, count: u8) -> Layer<W>
+    ensures { Row W.ops (total W.ops (S.step steps.now) count 0 start) result }
 {
-    begin(start, row);
-    begin(start, spare);
+    let mut row = begin(start);
     for instant in 0..count {
-        advance(steps, instant, row, spare);
+        row = advance(steps, instant, &row);
     }
+    row
 }
 
-// Walks `count` steps from `start` in the first 256 entries of two rows; shorter rows are refused.
+// Walks `count` steps from `start`, and writes into the first 256 entries of two rows what each place then has; shorter rows are refused.
 pub fn walk<W: Weight + Copy, S: Steps<W>>(
     steps: &S,
     start: u8,
@@ -84,6 +70,8 @@ pub fn walk<W: Weight + Copy, S: Steps<W>>(
     if row.len() < BOARD_PLACES || spare.len() < BOARD_PLACES {
         return Err(Cause::BufferTooShort.at(0));
     }
-    walk_rows(steps, start, count, row, spare);
+    let walked: &[W] = &walk_row(steps, start, count);
+    row[..BOARD_PLACES].copy_from_slice(walked);
+    spare[..BOARD_PLACES].copy_from_slice(walked);
     Ok(())
 }

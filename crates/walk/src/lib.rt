@@ -5,6 +5,7 @@ mod allowed;
 mod arrival;
 mod chart;
 pub mod count;
+pub mod errand;
 pub mod examples;
 pub mod horizon;
 pub mod kinds;

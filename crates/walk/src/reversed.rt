@@ -1,7 +1,7 @@
 // Steps taken backwards.
 ghost use Rattle.std.specs.Prelude.{◌≡◌, ◌-◌};
 
-use crate::weight::Steps;
+use crate::weight::{Step, Steps};
 
 // A walk over these from a goal goes back in time from the instant `last`.
 #[derive(Drop)]
@@ -13,8 +13,11 @@ pub(crate) struct Reversed<'a, S> {
 impl<'a, W, S: Steps<W>> Steps<W> for Reversed<'a, S> {
     ghost step = { λ r t p q. S.Steps.step r.steps.now (r.last - 1 - t) q p };
 
-    fn weight(&self, instant: u8, from: u8, to: u8) -> W {
-        let before = self.last.saturating_sub(1).saturating_sub(instant);
-        self.steps.weight(before, to, from)
+    fn weight(&self, taken: Step) -> W {
+        self.steps.weight(Step {
+            instant: self.last.saturating_sub(1).saturating_sub(taken.instant),
+            from: taken.to,
+            to: taken.from,
+        })
     }
 }

@@ -1,42 +1,47 @@
 // The first route of least cost.
-ghost use Rattle.std.specs.Prelude.{◌≡◌, ◌+◌, ◌*◌, ◌≤◌, true, false, ◌&&◌, length, MatchOption, slice_index_or};
+ghost use Rattle.std.specs.Prelude.{◌≡◌, ◌≤◌, true, false, ◌&&◌, MatchOption, find, slice_index_or};
 ghost use Rattle.grid.specs.Board.{next};
 ghost use Rattle.walk.specs.Kinds.{either_both};
 ghost use Rattle.walk.specs.Promises.{NoRoute, FirstRoute};
 ghost use Rattle.walk.specs.Sequences.{total};
-ghost use Rattle.walk.specs.Workings.{first, Charted, Traces};
+ghost use Rattle.walk.specs.Workings.{Charted, Traces};
 
 use crate::arrival::earliest;
 use crate::chart::chart;
-use crate::horizon::{Horizon, MAX_INSTANTS};
+use crate::errand::Errand;
+use crate::horizon::MAX_INSTANTS;
 use crate::reversed::Reversed;
-use crate::weight::Steps;
+use crate::rows::Layer;
+use crate::weight::{Step, Steps};
 use grid::board::neighbour;
 use grid::moves::MOVES;
-use grid::place::BOARD_PLACES;
-
-const CHART_ENTRIES: usize = MAX_INSTANTS * BOARD_PLACES;
 
 // A route and its cost. The places stand from instant 0 on, and from the horizon on they are the goal.
-#[derive(Clone, Copy)]
+#[derive(Clone, Copy, PartialEq, Debug)]
 pub struct Found {
     pub cost: u8,
     pub places: [u8; MAX_INSTANTS],
 }
 
 // The first place one step from `from` to which a step is allowed and that leads on to the goal.
-fn choose<S: Steps<bool>>(steps: &S, instant: u8, from: u8, leads: &[bool]) -> Option<u8>
-    requires { 256 ≤ length leads.now }
-    ensures { result ≡ first (λ q. S.step steps.now instant from q && slice_index_or leads.now q false) (next from) }
+fn choose<'a, S: Steps<bool>>(
+    steps: &'a S,
+    instant: u8,
+    from: u8,
+    leads: &'a Layer<bool>,
+) -> Option<u8>
+    ensures { result ≡ find (λ q. S.step steps.now instant from q && slice_index_or leads.now q false) (next from) }
 {
-    for towards in MOVES {
-        if let Some(to) = neighbour(from, towards) {
-            if steps.weight(instant, from, to) && leads[to as usize] {
-                return Some(to);
-            }
-        }
-    }
-    None
+    MOVES
+        .iter()
+        .filter_map(move |towards| neighbour(from, *towards))
+        .find(move |to| {
+            steps.weight(Step {
+                instant,
+                from,
+                to: *to,
+            }) && leads[*to as usize]
+        })
 }
 
 // The places of the first sequence that reaches the goal at instant `cost`, and the goal after them. The table tells from where it can be reached.
@@ -45,9 +50,9 @@ fn trace<S: Steps<bool>>(
     start: u8,
     goal: u8,
     cost: u8,
-    table: &[bool],
+    table: &[Layer<bool>; MAX_INSTANTS],
 ) -> [u8; MAX_INSTANTS]
-    requires sizes { (cost ≤ 63) × (256 * cost + 256 ≤ length table.now) }
+    requires in_time { cost ≤ 63 }
     requires charted { Charted (S.step steps.now) goal cost table.now }
     requires reached { total either_both (S.step steps.now) cost 0 start goal ≡ true }
     ensures { Traces (S.step steps.now) start goal cost result }
@@ -56,8 +61,8 @@ fn trace<S: Steps<bool>>(
     let mut at = start;
     places[0] = at;
     for instant in 0..cost {
-        let left = BOARD_PLACES * (cost - instant - 1) as usize;
-        match choose(steps, instant, at, &table[left..left + BOARD_PLACES]) {
+        let left = cost - instant - 1;
+        match choose(steps, instant, at, &table[left as usize]) {
             Some(to) => at = to,
             None => unreachable(),
         }
@@ -67,18 +72,13 @@ fn trace<S: Steps<bool>>(
 }
 
 // The first of the routes of least cost, or nothing where there is no route.
-pub fn first_route<S: Steps<bool>>(
-    steps: &S,
-    start: u8,
-    goal: u8,
-    horizon: Horizon,
-) -> Option<Found>
-    ensures { MatchOption result (NoRoute (S.step steps.now) horizon.steps start goal) (FirstRoute (S.step steps.now) horizon.steps start goal) }
+pub fn first_route<S: Steps<bool>>(steps: &S, errand: Errand) -> Option<Found>
+    ensures { MatchOption result (NoRoute (S.step steps.now) errand.horizon.steps errand.start errand.goal) (FirstRoute (S.step steps.now) errand.horizon.steps errand.start errand.goal) }
 {
-    let cost = earliest(steps, start, goal, horizon)?;
+    let Errand { start, goal, .. } = errand;
+    let cost = earliest(steps, errand)?;
     let back = Reversed { steps, last: cost };
-    let mut table = [false; CHART_ENTRIES];
-    chart(&back, goal, cost, &mut table);
+    let table = chart(&back, goal, cost);
     let places = trace(steps, start, goal, cost, &table);
     Some(Found { cost, places })
 }

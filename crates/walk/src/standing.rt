@@ -1,21 +1,38 @@
 // The steps of one sled on a floor.
-ghost use Rattle.std.specs.Prelude.{◌≡◌};
+ghost use Rattle.std.specs.Prelude.{◌≡◌, ℕ, ◌<◌};
+ghost use Rattle.walk.specs.Examples.{open_floor};
 ghost use Rattle.walk.specs.Sleds.{stands, both_ends};
 
-use crate::weight::Steps;
+use crate::weight::{Step, Steps};
 use grid::place::BOARD_PLACES;
+use std::array;
 
 // Whether the sled may stand at each place of the board: worked out before a walk, so that the walk asks neither fleet nor floor.
-#[derive(Clone, Copy)]
+#[derive(Clone, Copy, PartialEq, Debug)]
 pub struct Standing {
     pub at: [bool; BOARD_PLACES],
+}
+
+impl Standing {
+    // A sled of one cell on a floor without pillars, of so many columns and rows.
+    pub fn open(columns: usize, rows: usize) -> Standing
+        ensures { (p : ℕ) → p < 256 → stands result.at p ≡ open_floor columns rows p }
+    {
+        Standing {
+            at: array::from_fn(
+                |place|
+                    ensures { result ≡ open_floor columns rows place }
+                { place % 16 < columns && place / 16 < rows },
+            ),
+        }
+    }
 }
 
 // A step is allowed where the sled may stand at both its ends.
 impl Steps<bool> for Standing {
     ghost step = { λ s t p q. both_ends (stands s.at) t p q };
 
-    fn weight(&self, _instant: u8, from: u8, to: u8) -> bool {
-        self.at[from as usize] && self.at[to as usize]
+    fn weight(&self, taken: Step) -> bool {
+        self.at[taken.from as usize] && self.at[taken.to as usize]
     }
 }

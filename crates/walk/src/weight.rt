@@ -21,10 +21,18 @@ pub trait Weight: Sized {
     ghost laws: { Laws ops };
 }
 
-// What the step weighs that leaves the place `from` at an instant and goes to the place `to`.
+// A step: it leaves the place `from` at an instant and goes to the place `to`.
+#[derive(Clone, Copy, PartialEq, Debug)]
+pub struct Step {
+    pub instant: u8,
+    pub from: u8,
+    pub to: u8,
+}
+
+// What each step weighs.
 pub trait Steps<W> {
     ghost step: { Self → ℕ → ℕ → ℕ → W };
 
-    fn weight(&self, instant: u8, from: u8, to: u8) -> W
-        ensures { result ≡ step self.now instant from to };
+    fn weight(&self, taken: Step) -> W
+        ensures { result ≡ step self.now taken.instant taken.from taken.to };
 }

@@ -1,4 +1,4 @@
-use Rattle.std.proofs.Common.{◌≡◌, ℕ, ◌<◌, false, length}
+use Rattle.std.proofs.Common.{◌≡◌, ℕ, ◌<◌, false}
 use Rattle.walk.specs.Kinds.{either_both}
 use Rattle.walk.specs.Sequences.{total, Row}
 use Rattle.walk.specs.Workings.{arrives}
@@ -9,5 +9,3 @@ invariant-loop-instant g l =
     let a = g.S.Steps.step l.steps in
     Row either_both (total either_both a l.instant 0 l.start) l.row
     × ((k : ℕ) → k < l.instant → arrives a l.horizon.steps l.start l.goal k ≡ false)
-    × (length l.row ≡ 256)
-    × (length l.spare ≡ 256)

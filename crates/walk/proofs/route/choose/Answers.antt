@@ -1,31 +1,17 @@
-use Rattle.std.proofs.Common.{sym, ap, ◌∙◌}
-use Rattle.std.proofs.lemmas.Bool.{and_left, and_right, and_from}
-use Rattle.walk.specs.Workings.{first}
-use Rattle.walk.proofs.Sides.{sides_all, sides_end, first_past_none, first_past, first_here}
+use Rattle.std.proofs.Common.{ℕ, Bool, false, ◌&&◌, find, get_or, sym, refl, ap, ◌∙◌, rules, tests}
+use Rattle.std.proofs.lemmas.Iterator.{YieldsList-from_slice}
+use Rattle.std.proofs.lemmas.Iterator.Consumers.{YieldsList-from_filter_map}
+use Rattle.std.proofs.lemmas.Iterator.Search.{find_from_yields_List}
+use Rattle.grid.specs.Board.{side, every_move}
+use Rattle.walk.proofs.Sides.{next_is}
+use Rattle.walk.proofs.Trails.{mapped_same}
 use Rattle.walk.proofs.route.choose.Goals as goal
-use Rattle.walk.proofs.route.choose.Goals.{in-Some+else-weight, else-weight-via-then-weight+else-leads-to, else-weight-via-else-weight, in_default}
-
-pub loop-towards-init : goal.loop-towards-init
-loop-towards-init g c = ap (first _) (sides_all c.args.from)
-
-pub loop-towards-preserved : goal.loop-towards-preserved
-loop-towards-preserved g c =
-    let p = c.args.from in
-    let k = c.loop-towards.towards-index in
-    let l = c.loop-towards-test.true in
-    elim c.match-neighbour.branch [
-      | in-Some+else-weight w ↦ elim w.else-weight.branch [
-        | else-weight-via-then-weight+else-leads-to v ↦ first_past _ p k _ l c.loop-towards.invariant w.in-Some.to w.in-Some.ensures.side_is (and_right _ _ v.if-leads-to.false)
-        | else-weight-via-else-weight v ↦
-            first_past _ p k _ l c.loop-towards.invariant w.in-Some.to w.in-Some.ensures.side_is (and_left _ _ (sym w.weight.ensures ∙ v.if-weight.false))
-      ]
-      | in_default w ↦ first_past_none _ p k _ l c.loop-towards.invariant w.in_default.ensures.side_is
-    ]
-
-pub returns-then-leads-to : goal.returns-then-leads-to
-returns-then-leads-to g c =
-    first_here _ c.args.from c.loop-towards.towards-index _ c.loop-towards-test.true c.loop-towards.invariant c.in-Some.to c.in-Some.ensures.side_is
-    (and_from _ _ (sym c.if-weight.ensures) c.if-leads-to.true)
 
 pub returns : goal.returns
-returns g c = ap (first _) (sym (sides_end c.args.from c.loop-towards.towards-index c.loop-towards-test.false)) ∙ c.loop-towards.invariant
+returns g c =
+    let test : ℕ → Bool = λ q. g.S.Steps.step c.args.steps.now c.args.instant c.args.from q && get_or c.args.leads.now q false in
+    sym (mapped_same _ (λ q. refl) c.find.result)
+    ∙ find_from_yields_List test _ _ c.find.result c.find.ensures.ran
+    (YieldsList-from_filter_map _ (side c.args.from) (YieldsList-from_slice every_move (cc)) c.filter_map.ensures.closure (λ x r q k. search (rules, tests)))
+    (λ x b q k. search (rules, tests))
+    ∙ ap (find test) (next_is c.args.from)

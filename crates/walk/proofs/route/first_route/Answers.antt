@@ -12,32 +12,32 @@ use Rattle.walk.proofs.route.first_route.Goals as goal
 pub returns-in_err-cost : goal.returns-in_err-cost
 returns-in_err-cost g c =
     let a = g.S.Steps.step c.args.steps.now in
-    let n = c.args.horizon.steps in
-    let none = no_route a c.args.goal (omega arith) n c.args.start c.in_err-cost.ensures in
-    cases_none _ _ _ c.from_residual.ensures (record { listed = none; none = none_best a n c.args.start c.args.goal none })
+    let n = c.args.errand.horizon.steps in
+    let none = no_route a c.args.errand.goal (omega arith) n c.args.errand.start c.in_err-cost.ensures in
+    cases_none _ _ _ c.from_residual.ensures (record { listed = none; none = none_best a n c.args.errand.start c.args.errand.goal none })
 
 pub trace-places-requires : goal.trace-places-requires
 trace-places-requires g c =
     let found = c.in_ok-cost.ensures in
     let near = found.in_time in
     record {
-      sizes = search rules;
-      charted = λ k q l h. c.chart.ensures k (omega arith) q h ∙ total_turned either_both either_both_laws and_comm (g.S.Steps.step c.args.steps.now) c.in_ok-cost.cost k c.args.goal q l;
+      in_time = search rules;
+      charted = λ k q l h. c.chart-table.ensures k l q h ∙ total_turned either_both either_both_laws and_comm (g.S.Steps.step c.args.steps.now) c.in_ok-cost.cost k c.args.errand.goal q l;
       reached = (and_parts _ _ found.here).0;
     }
 
 pub returns : goal.returns
 returns g c =
     let a = g.S.Steps.step c.args.steps.now in
-    let n = c.args.horizon.steps in
-    let on_board : c.args.goal < 256 = omega arith in
+    let n = c.args.errand.horizon.steps in
+    let on_board : c.args.errand.goal < 256 = omega arith in
     let found = c.in_ok-cost.ensures in
-    let way = c.trace-places.ensures n found.in_time c.args.horizon.most (and_parts _ _ found.here).1 in
-    let chosen = least_route a c.args.goal on_board n c.args.start c.in_ok-cost.cost found.in_time found.before way.sequence way.fits in
+    let way = c.trace-places.ensures n found.in_time c.args.errand.horizon.most (and_parts _ _ found.here).1 in
+    let chosen = least_route a c.args.errand.goal on_board n c.args.errand.start c.in_ok-cost.cost found.in_time found.before way.sequence way.fits in
     record {
       route = way.sequence;
       listed = chosen;
-      best = some_best a n c.args.start c.args.goal way.sequence chosen;
-      cost_is = least_cost a c.args.goal on_board n c.args.start c.in_ok-cost.cost found.in_time found.before way.sequence way.fits;
+      best = some_best a n c.args.errand.start c.args.errand.goal way.sequence chosen;
+      cost_is = least_cost a c.args.errand.goal on_board n c.args.errand.start c.in_ok-cost.cost found.in_time found.before way.sequence way.fits;
       places_are = way.places_are;
     }

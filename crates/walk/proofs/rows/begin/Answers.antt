@@ -1,10 +1,8 @@
-use Rattle.std.proofs.Common.{◌∙◌, arith}
-use Rattle.std.proofs.lemmas.List.{drop-set-lt}
-use Rattle.walk.proofs.Filled.{row_unit}
+use Rattle.std.proofs.Common.{rules, tests, cond, eqb}
+use Rattle.walk.proofs.Made.{made}
 use Rattle.walk.proofs.rows.begin.Goals as goal
 
 pub returns : goal.returns
-returns g c = record {
-  made = row_unit g.W.Weight.ops c.clear.new.row c.args.start c.one.result c.one.ensures (omega arith) c.clear.ensures.made;
-  rest = drop-set-lt 256 c.clear.new.row c.args.start c.one.result (omega arith) ∙ c.clear.ensures.rest;
-}
+returns g c q l =
+    let o = g.W.Weight.ops in
+    made (λ p. cond (eqb c.args.start p) o.one o.nought) (λ i y f k. search (rules, tests)) c.from_fn.ensures.items q o.nought l

@@ -1,13 +1,14 @@
-use Rattle.std.proofs.Common.{◌∙◌, arith}
+use Rattle.std.proofs.Common.{refl, ◌++◌, drop, List, ap, ◌∙◌, arith, replicate}
 use Rattle.walk.specs.Kinds.{count}
 use Rattle.walk.proofs.Filled.{filled_is}
+use Rattle.walk.specs.declared.count.Count.{Count}
 use Rattle.walk.proofs.tally.count_routes.Goals as goal
 
 pub returns : goal.returns
 returns g c = record {
   row_long = omega arith;
   spare_long = omega arith;
-  number_is = c.tally-count.ensures.counted;
-  row_is = filled_is 256 (count 0) (count 0) c.clear.new.row c.args.row.now (omega arith) c.clear.ensures.made (c.clear.ensures.rest ∙ c.tally-count.ensures.rest);
-  spare_is = filled_is 256 (count 0) (count 0) c.clear-2.new.row c.args.spare.now (omega arith) c.clear-2.ensures.made (c.clear-2.ensures.rest ∙ c.tally-count.ensures.spare_rest);
+  number_is = c.tally-count.ensures;
+  row_is = ap (λ (xs : List Count). xs ++ drop 256 c.args.row.now) (filled_is 256 c.nought.result (count 0) c.args.row.now c.fill.new.self (omega arith) c.fill.ensures.len (λ q e l. c.fill.ensures.clones q e l refl) ∙ ap (replicate 256) c.nought.ensures);
+  spare_is = ap (λ (xs : List Count). xs ++ drop 256 c.args.spare.now) (filled_is 256 c.nought-2.result (count 0) c.args.spare.now c.fill-2.new.self (omega arith) c.fill-2.ensures.len (λ q e l. c.fill-2.ensures.clones q e l refl) ∙ ap (replicate 256) c.nought-2.ensures);
 }

@@ -1,8 +1,0 @@
-use Rattle.std.proofs.Common.{◌≡◌, ℕ, ◌<◌, get_or, drop}
-use Rattle.walk.specs.Workings.{stepped}
-use Rattle.walk.proofs.layers.layer.Given as goal
-
-abbrev pub invariant-loop-to : goal.invariant-loop-to
-invariant-loop-to g l =
-    let o = g.W.Weight.ops in
-    ((q : ℕ) → q < l.to → get_or l.out q o.nought ≡ stepped o (g.S.Steps.step l.steps) l.instant l.row q) × (drop 256 l.out ≡ drop 256 l.initial.out)
