@@ -1,22 +1,24 @@
 // Where a sled may stand.
 ghost use Rattle.std.specs.Prelude.{◌≡◌, Decides};
 ghost use Rattle.grid.specs.Places.{position_of};
-ghost use Rattle.geometry.specs.Stands.{is_free, blocked, may_stand, Standing};
+ghost use Rattle.geometry.specs.Stands.{blocked, may_stand, Standing};
 
-use crate::sharing::moved;
+use crate::sharing::cell_by;
 use fleet::Fleet;
 use fleet::scan::{OffsetTest, any_offset};
 use grid::cell::Cell;
 use grid::floor::Floor;
 use grid::place::Place;
 
-fn is_free(cell: Cell) -> bool
-    ensures { result ≡ is_free cell }
+// Whether an offset is one of a sled at a place and falls on no free cell.
+fn is_blocked<F: Fleet>(fleet: &F, sled: u8, floor: &Floor, place: Place, dx: i8, dy: i8) -> bool
+    ensures { result ≡ blocked (F.Fleet.offsets fleet.now sled) floor.now (position_of place) dx dy }
 {
-    match cell {
-        Cell::Free => true,
-        Cell::Pillar => false,
+    if !fleet.has(sled, dx, dy) {
+        return false;
     }
+    let cell = cell_by(place, dx, dy);
+    floor.cell(cell.column, cell.row) != Cell::Free
 }
 
 // An offset of a sled at a place that falls on no free cell.
@@ -32,11 +34,7 @@ impl<F: Fleet> OffsetTest for Blocked<'_, F> {
     ghost passes = { λ t. blocked (F.Fleet.offsets t.fleet.now t.sled) t.floor.now (position_of t.place) };
 
     fn passes_at(&self, dx: i8, dy: i8) -> bool {
-        self.fleet.has(self.sled, dx, dy)
-            && !is_free(
-                self.floor
-                    .cell(moved(self.place.column, dx), moved(self.place.row, dy)),
-            )
+        is_blocked(self.fleet, self.sled, self.floor, self.place, dx, dy)
     }
 }
 

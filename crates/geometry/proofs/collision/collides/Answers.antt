@@ -7,15 +7,16 @@ use Rattle.geometry.proofs.collision.collides.Goals as goal
 pub returns : goal.returns
 returns g c =
     let f = c.args.fleet.now in
-    let first = g.F.Fleet.offsets f c.args.i in
-    let second = g.F.Fleet.offsets f c.args.j in
-    let near = g.met.F.Fleet.near f c.args.i in
-    let near' = g.met.F.Fleet.near f c.args.j in
-    let u = position_of c.args.u in
-    let v = position_of c.args.v in
+    let p = c.args.pair in
+    let first = g.F.Fleet.offsets f p.i in
+    let second = g.F.Fleet.offsets f p.j in
+    let near = g.met.F.Fleet.near f p.i in
+    let near' = g.met.F.Fleet.near f p.j in
+    let u = position_of p.u in
+    let v = position_of p.v in
     let a = c.args.a in
     let b = c.args.b in
-    let value = rw (c.relative.ensures.across, c.relative.ensures.down) at c.any_offset.ensures in
+    let value = rw (c.relative-step.ensures.across, c.relative-step.ensures.down) at c.any_offset.ensures in
     record {
       value = value;
       meaning = Decides-at _ _ value (collide_told first u a second v b near near');
