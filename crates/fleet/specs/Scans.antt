@@ -1,5 +1,5 @@
 -- Tests over all offsets with parts from -7 to 7.
-use Rattle.std.specs.Prelude.{◌≡◌, ℕ, zero, suc, ◌+◌, ◌*◌, Bool, true, false, cond, ◌&&◌, ◌||◌, ℤ, pos, ◌+ℤ◌, ◌-ℤ◌, neg_ℤ, Some, None, Option, int_le}
+use Rattle.std.specs.Prelude.{◌≡◌, ℕ, zero, suc, ◌+◌, ◌*◌, Bool, true, false, cond, ◌&&◌, ◌||◌, ℤ, pos, ◌+ℤ◌, ◌-ℤ◌, ◌≤ℤ◌, neg_ℤ, Some, None, Option, int_le}
 use Rattle.fleet.specs.declared.offset.Offset.{Offset}
 use Rattle.fleet.specs.Offsets.{Offsets, Near}
 
@@ -27,6 +27,26 @@ some_beside m x y p = some_within m y (in_row m x p)
 -- some offset with parts from -7 to 7 passes
 abbrev pub some_offset : Offsets → Bool
 some_offset p = some_beside 7 (pos 0) (pos 0) p
+
+-- z is within m of a
+abbrev pub Within : (m : ℕ) (z a : ℤ) → Type 0
+Within m z a = (z ≤ℤ (a +ℤ pos m)) × (a ≤ℤ (z +ℤ pos m))
+
+-- a test of numbers answers what p says, from z - m to z + m
+abbrev pub TellsWithin : (m : ℕ) (z : ℤ) → (ℤ → Bool → Type 0) → (ℤ → Bool) → Type 0
+TellsWithin m z answers p = (a : ℤ) → Within m z a → (b : Bool) → answers a b → b ≡ p a
+
+-- a test of offsets answers what p says, within m, across and down, of (x, y)
+abbrev pub TellsBeside : (m : ℕ) (x y : ℤ) → (ℤ → ℤ → Bool → Type 0) → Offsets → Type 0
+TellsBeside m x y answers p = (a b : ℤ) → Within m x a → Within m y b → (r : Bool) → answers a b r → r ≡ p a b
+
+-- a test of offsets answers what p says, at all with parts from -7 to 7
+abbrev pub Tells : (ℤ → ℤ → Bool → Type 0) → Offsets → Type 0
+Tells answers p = (x y : ℤ) → Near x → Near y → (b : Bool) → answers x y b → b ≡ p x y
+
+-- of any set that a test of offsets tells there, r is what in_row says of row y
+unfoldable pub TellsRow : (m : ℕ) (x : ℤ) → (ℤ → ℤ → Bool → Type 0) → (y : ℤ) → (r : Bool) → Type 0
+TellsRow m x answers y r = (p : Offsets) → TellsWithin m x (λ a b. answers a y b) (λ a. p a y) → r ≡ in_row m x p y
 
 -- from -n to n
 abbrev pub within : ℕ → ℤ → Bool

@@ -1,5 +1,5 @@
 -- Skirts around the sleds of a fleet.
-use Rattle.std.specs.Prelude.{◌≡◌, ℕ, ◌-◌, Bool, true, cond, not, ◌&&◌, List, map, ℤ, pos, ◌+ℤ◌, ◌≤ℤ◌, Some, None, Option, Result, nat_le, nat_lt, slice_index_or, slice_set}
+use Rattle.std.specs.Prelude.{◌≡◌, ℕ, ◌-◌, Bool, true, cond, not, ◌&&◌, List, map, ℤ, Some, None, Option, Result, nat_le, nat_lt, slice_index_or, slice_set}
 use Rattle.std.proofs.Common.{lit≤}
 use Rattle.fault.specs.declared.cause.Fault.{Fault}
 use Rattle.fault.specs.declared.cause.Cause.TheVariants.{ValueOutsideLimits, OffsetTooFar}
@@ -7,7 +7,7 @@ use Rattle.fault.specs.Causes.{fault_at}
 use Rattle.fleet.specs.declared.skirt.Margin.{Margin}
 use Rattle.fleet.specs.declared.skirt.Skirt.{Skirt}
 use Rattle.fleet.specs.Offsets.{Offsets, Sleds, Near}
-use Rattle.fleet.specs.Scans.{within, some_beside, some_offset}
+use Rattle.fleet.specs.Scans.{within, some_beside, some_offset, Within}
 use Rattle.fleet.specs.Refusals.{Judged}
 
 -- the offsets within m, across and down, of an offset below, cut at -7 and 7
@@ -43,10 +43,6 @@ skirt_fault n below s m =
 abbrev pub Given : {F : Type 0} → (n : ℕ) → Sleds → (s m : ℕ) → (before after : Skirt F) → Result (Unit {0}) Fault → Type 0
 Given n below s m before after =
     Judged (skirt_fault n below s m) before after ((margins_of after ≡ slice_set (margins_of before) s m) × (after.inner ≡ before.inner))
-
--- z is within m of a
-abbrev pub Within : (m : ℕ) (z a : ℤ) → Type 0
-Within m z a = (z ≤ℤ (a +ℤ pos m)) × (a ≤ℤ (z +ℤ pos m))
 
 -- (x, y) is within m, across and down, of an offset (a, b) below
 pub record Beside (m : ℕ) (below : Offsets) (x y : ℤ) : Type 0 where

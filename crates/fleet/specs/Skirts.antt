@@ -4,8 +4,8 @@ use Rattle.std.proofs.Common.{⊎_elim, arith}
 use Rattle.std.proofs.lemmas.Int.{ints}
 use Rattle.std.proofs.lemmas.Bool.{and_parts, and_from, and_cases, not-true, not_from_false, cases_Bool}
 use Rattle.fleet.specs.Offsets.{Offsets, Near}
-use Rattle.fleet.specs.Scans.{within, in_row}
-use Rattle.fleet.specs.SkirtFleets.{skirt, reaches_past, is_cut, Within, Skirted, Cut}
+use Rattle.fleet.specs.Scans.{within, in_row, Within}
+use Rattle.fleet.specs.SkirtFleets.{skirt, reaches_past, is_cut, Skirted, Cut}
 use Rattle.fleet.specs.ScansLemmas.{within_told, row_told, offset_found, offset_is}
 
 near_told : (z : ℤ) → Decides (within 7 z) (Near z)

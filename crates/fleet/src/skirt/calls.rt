@@ -4,48 +4,12 @@ ghost use Rattle.fleet.specs.SkirtFleets.{skirt, reaches_past, is_cut, margin_of
 ghost use Rattle.fleet.specs.Skirts.{skirt_told, within_more};
 ghost use Rattle.std.proofs.Common.{rules, arith};
 
-use crate::scan::{OffsetTest, REACH, any_beside, any_offset, is_within};
+use crate::scan::{REACH, any_beside, any_offset, is_within};
 use crate::skirt::{Margin, Skirt};
 use crate::{Fleet, MAX_SLEDS};
 use fault::cause::{Cause, Fault};
 
 const MAX_MARGIN: u8 = 3;
-
-// An offset of a sled.
-#[derive(Drop)]
-struct Own<'a, F> {
-    fleet: &'a F,
-    sled: u8,
-}
-
-impl<F: Fleet> OffsetTest for Own<'_, F> {
-    ghost passes = { λ t. F.Fleet.offsets t.fleet.now t.sled };
-
-    fn passes_at(&self, dx: i8, dy: i8) -> bool {
-        self.fleet.has(self.sled, dx, dy)
-    }
-}
-
-// An offset of a sled from which so many cells more reach past the largest part.
-#[derive(Drop)]
-struct ReachingPast<'a, F> {
-    fleet: &'a F,
-    sled: u8,
-    cells: u8,
-    ghost narrow: { cells ≤ 3 },
-}
-
-impl<F: Fleet> OffsetTest for ReachingPast<'_, F> {
-    ghost passes = { λ t. reaches_past t.cells (F.Fleet.offsets t.fleet.now t.sled) };
-
-    fn passes_at(&self, dx: i8, dy: i8) -> bool {
-        if !self.fleet.has(self.sled, dx, dy) {
-            return false;
-        }
-        let limit = REACH - self.cells;
-        !(is_within(limit, dx) && is_within(limit, dy))
-    }
-}
 
 impl<F: Fleet> Skirt<F> {
     // A fleet with no margins yet.
@@ -67,12 +31,11 @@ impl<F: Fleet> Skirt<F> {
         if sled >= self.inner.count() || cells > MAX_MARGIN {
             return Err(Cause::ValueOutsideLimits.at(0));
         }
-        let reaching = ReachingPast {
-            fleet: &self.inner,
-            sled,
-            cells,
+        let limit = REACH - cells;
+        let reaches_past = |dx, dy| {
+            self.inner.has(sled, dx, dy) && !(is_within(limit, dx) && is_within(limit, dy))
         };
-        if any_offset(&reaching) {
+        if any_offset(reaches_past) {
             return Err(Cause::OffsetTooFar.at(sled as usize));
         }
         self.margins[sled as usize] = Margin { cells };
@@ -87,11 +50,7 @@ impl<F: Fleet> Skirt<F> {
         if !is_within(REACH, dx) || !is_within(REACH, dy) {
             return false;
         }
-        let own = Own {
-            fleet: &self.inner,
-            sled,
-        };
-        any_beside(&own, cells, dx, dy)
+        any_beside(|x, y| self.inner.has(sled, x, y), cells, dx, dy)
     }
 }
 

@@ -1,28 +1,36 @@
-use Rattle.std.proofs.Common.{sym, ◌∙◌, subst, w8, SFits, rules}
-use Rattle.std.proofs.lemmas.Int.{to_z-of_z}
+use Rattle.std.proofs.Common.{pos, arith, w8, SFits, rules, sym, subst}
+use Rattle.std.proofs.lemmas.Int.{to_z-of_z, ints}
 use Rattle.std.proofs.lemmas.Bool.{both_ways}
 use Rattle.fleet.specs.Offsets.{Near}
 use Rattle.fleet.specs.Scans.{in_row}
-use Rattle.fleet.specs.ScansLemmas.{near_first}
+use Rattle.fleet.specs.ScansLemmas.{row_is, tells_beside, near_first}
 use Rattle.fleet.proofs.scan.first_offset.Goals as goal
 
-pub returns-in-Some-first_near : goal.returns-in-Some-first_near
-unfolding in_row
-returns-in-Some-first_near g c =
-    let row = c.in-Some.ensures in
-    let fits_y : SFits w8 c.in-Some.dy = search rules in
-    let fits_x : SFits w8 c.in-Some-first_near.dx = search rules in
-    let y = to_z-of_z w8 c.in-Some.dy fits_y in
-    let x = to_z-of_z w8 c.in-Some-first_near.dx fits_x in
-    let column = rw (y, row.1) at c.in-Some-first_near.ensures in
-    let e = x ∙ column.1 in
-    let f = y ∙ row.1 in
-    (row.0, e, f, subst Near (sym e) (near_first _ column.0).1, subst Near (sym f) (near_first _ row.0).1)
+pub returns-in_err-dy : goal.returns-in_err-dy
+returns-in_err-dy g c = λ set tells.
+    rw c.from_residual.ensures (c.in_err-dy.ensures (in_row 7 (pos 0) set) (λ b down r e. row_is 7 (pos 0) (pos 0) set (tells_beside set tells) b down r (search rules)))
 
-pub returns-in-None : goal.returns-in-None
+pub returns-in_err-dx : goal.returns-in_err-dx
 unfolding in_row
-returns-in-None g c =
-    let row = c.in-Some.ensures in
-    let fits_y : SFits w8 c.in-Some.dy = search rules in
-    let y = to_z-of_z w8 c.in-Some.dy fits_y in
-    absurd (both_ways _ (rw (y, row.1) at c.in-None.ensures) (near_first _ row.0).0)
+returns-in_err-dx g c = λ set tells.
+    let row = c.in_ok-dy.ensures (in_row 7 (pos 0) set) (λ b down r e. row_is 7 (pos 0) (pos 0) set (tells_beside set tells) b down r (search rules)) in
+    let (hit, near) = near_first (in_row 7 (pos 0) set) row.0 in
+    let near_y : Near c.in_ok-dy.dy = subst Near (sym row.1) near in
+    let fits : SFits w8 c.in_ok-dy.dy = search rules in
+    let y = to_z-of_z w8 c.in_ok-dy.dy fits in
+    let none = c.in_err-dx.ensures (λ x. set x c.in_ok-dy.dy) (λ x across r e. tells x c.in_ok-dy.dy (omega (arith, ints), omega (arith, ints)) near_y r (search rules)) in
+    absurd (both_ways _ (rw row.1 at none) hit)
+
+pub returns : goal.returns
+unfolding in_row
+returns g c = λ set tells.
+    let row = c.in_ok-dy.ensures (in_row 7 (pos 0) set) (λ b down r e. row_is 7 (pos 0) (pos 0) set (tells_beside set tells) b down r (search rules)) in
+    let (hit, near) = near_first (in_row 7 (pos 0) set) row.0 in
+    let near_y : Near c.in_ok-dy.dy = subst Near (sym row.1) near in
+    let fits_y : SFits w8 c.in_ok-dy.dy = search rules in
+    let fits_x : SFits w8 c.in_ok-dx.dx = search rules in
+    let y = to_z-of_z w8 c.in_ok-dy.dy fits_y in
+    let x = to_z-of_z w8 c.in_ok-dx.dx fits_x in
+    let column = c.in_ok-dx.ensures (λ x. set x c.in_ok-dy.dy) (λ x across r e. tells x c.in_ok-dy.dy (omega (arith, ints), omega (arith, ints)) near_y r (search rules)) in
+    let near_x : Near c.in_ok-dx.dx = subst Near (sym column.1) (near_first (λ x. set x c.in_ok-dy.dy) column.0).1 in
+    rw (x, y) (row.0, rw row.1 at column.1, row.1, near_x, near_y)

@@ -1,6 +1,7 @@
-use Rattle.std.proofs.Common.{refl, arith}
+use Rattle.std.proofs.Common.{refl, arith, rules}
 use Rattle.std.proofs.lemmas.List.{map-set}
 use Rattle.std.proofs.lemmas.Bool.Decides.{nat_tests}
+use Rattle.fleet.specs.SkirtFleets.{reaches_past}
 use Rattle.fleet.specs.Skirts.{cut_told}
 use Rattle.fleet.proofs.skirt.Skirt.set_skirt.Goals as goal
 
@@ -15,11 +16,11 @@ returns-then-sled-count g c =
 pub returns-then-any_offset : goal.returns-then-any_offset
 returns-then-any_offset g c =
     let f = c.args.self.now.inner in
-    let cut = c.if-any_offset.ensures in
+    let cut = c.if-any_offset.ensures (reaches_past c.args.cells (g.F.Fleet.offsets f c.args.sled)) (λ x y near_x near_y r e. search rules) in
     record { outcome = (grind (arith, nat_tests, cut), refl); meaning = λ h. cut_told c.args.cells (g.F.Fleet.offsets f c.args.sled) h (g.met.F.Fleet.near f c.args.sled) }
 
 pub returns : goal.returns
 returns g c =
     let f = c.args.self.now.inner in
-    let uncut = c.if-any_offset.ensures in
+    let uncut = c.if-any_offset.ensures (reaches_past c.args.cells (g.F.Fleet.offsets f c.args.sled)) (λ x y near_x near_y r e. search rules) in
     record { outcome = (grind (arith, nat_tests, uncut), (map-set _ c.args.self.now.margins c.args.sled _, refl)); meaning = λ h. cut_told c.args.cells (g.F.Fleet.offsets f c.args.sled) h (g.met.F.Fleet.near f c.args.sled) }
