@@ -12,7 +12,7 @@ use crate::relative::{Step, relative};
 use crate::sharing::cell_by;
 use fleet::Fleet;
 use fleet::offset::Offset;
-use fleet::scan::{OffsetTest, any_offset};
+use fleet::scan::any_offset;
 use grid::moves::Move;
 
 // How far the first sled's cell by an offset lies from the second's.
@@ -38,54 +38,12 @@ fn is_struck<F: Fleet>(fleet: &F, pair: Pair, of_first: Offset, step: Step, dx: 
     fleet.has(pair.j, dx, dy) && apart(pair, of_first, Offset { dx, dy }).overlaps(step)
 }
 
-// An offset of the second sled whose cell overlaps with one of the first sled's during the step.
-#[derive(Drop)]
-struct Struck<'a, F> {
-    fleet: &'a F,
-    pair: Pair,
-    of_first: Offset,
-    step: Step,
-    ghost across: { Near of_first.dx },
-    ghost down: { Near of_first.dy },
-}
-
-impl<F: Fleet> OffsetTest for Struck<'_, F> {
-    ghost passes = { λ t. struck (pos t.pair.u.column +ℤ t.of_first.dx) (pos t.pair.u.row +ℤ t.of_first.dy) (F.Fleet.offsets t.fleet.now t.pair.j) (position_of t.pair.v) t.step.dx t.step.dy };
-
-    fn passes_at(&self, dx: i8, dy: i8) -> bool {
-        is_struck(self.fleet, self.pair, self.of_first, self.step, dx, dy)
-    }
-}
-
 // Whether an offset is one of the first sled and its cell overlaps with one of the second during the step.
 fn strikes<F: Fleet>(fleet: &F, pair: Pair, step: Step, dx: i8, dy: i8) -> bool
     ensures { result ≡ striking (F.Fleet.offsets fleet.now pair.i) (position_of pair.u) (F.Fleet.offsets fleet.now pair.j) (position_of pair.v) step.dx step.dy dx dy }
 {
-    if !fleet.has(pair.i, dx, dy) {
-        return false;
-    }
-    any_offset(&Struck {
-        fleet,
-        pair,
-        of_first: Offset { dx, dy },
-        step,
-    })
-}
-
-// An offset of the first sled whose cell overlaps with one of the second during the step.
-#[derive(Drop)]
-struct Striking<'a, F> {
-    fleet: &'a F,
-    pair: Pair,
-    step: Step,
-}
-
-impl<F: Fleet> OffsetTest for Striking<'_, F> {
-    ghost passes = { λ t. striking (F.Fleet.offsets t.fleet.now t.pair.i) (position_of t.pair.u) (F.Fleet.offsets t.fleet.now t.pair.j) (position_of t.pair.v) t.step.dx t.step.dy };
-
-    fn passes_at(&self, dx: i8, dy: i8) -> bool {
-        strikes(self.fleet, self.pair, self.step, dx, dy)
-    }
+    fleet.has(pair.i, dx, dy)
+        && any_offset(|x, y| is_struck(fleet, pair, Offset { dx, dy }, step, x, y))
 }
 
 // Whether the first sled of a pair, moving by a, and the second, moving by b, collide.
@@ -97,5 +55,5 @@ pub fn collides<F: Fleet>(fleet: &F, pair: Pair, a: Move, b: Move) -> bool
     ensures end { (w z : Position) → Leads (position_of pair.u) a w → Leads (position_of pair.v) b z → share_cell (F.Fleet.offsets fleet.now pair.i) w (F.Fleet.offsets fleet.now pair.j) z ≡ true → result ≡ true }
 {
     let step = relative(a, b);
-    any_offset(&Striking { fleet, pair, step })
+    any_offset(|dx, dy| strikes(fleet, pair, step, dx, dy))
 }

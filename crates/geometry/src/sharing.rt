@@ -7,7 +7,7 @@ ghost use Rattle.geometry.specs.Shares.{covers, shared, share_cell, Sharing, Fir
 use crate::pair::Pair;
 use crate::spot::Spot;
 use fleet::Fleet;
-use fleet::scan::{OffsetTest, any_offset, first_offset};
+use fleet::scan::{any_offset, first_offset};
 use grid::place::Place;
 
 // The cell of a sled at a place by one of its offsets.
@@ -42,34 +42,19 @@ fn is_shared<F: Fleet>(fleet: &F, pair: Pair, dx: i8, dy: i8) -> bool
     fleet.has(pair.i, dx, dy) && covers_cell(fleet, pair.j, pair.v, cell_by(pair.u, dx, dy))
 }
 
-// An offset of the first sled that falls on a cell of the second.
-#[derive(Drop)]
-struct Shared<'a, F> {
-    fleet: &'a F,
-    pair: Pair,
-}
-
-impl<F: Fleet> OffsetTest for Shared<'_, F> {
-    ghost passes = { λ t. shared (F.Fleet.offsets t.fleet.now t.pair.i) (position_of t.pair.u) (F.Fleet.offsets t.fleet.now t.pair.j) (position_of t.pair.v) };
-
-    fn passes_at(&self, dx: i8, dy: i8) -> bool {
-        is_shared(self.fleet, self.pair, dx, dy)
-    }
-}
-
 // Whether the two sleds of a pair share a cell.
 pub fn shares_cell<F: Fleet>(fleet: &F, pair: Pair) -> bool
     ensures value { result ≡ share_cell (F.Fleet.offsets fleet.now pair.i) (position_of pair.u) (F.Fleet.offsets fleet.now pair.j) (position_of pair.v) }
     ensures meaning { Decides result (Sharing (F.Fleet.offsets fleet.now pair.i) (position_of pair.u) (F.Fleet.offsets fleet.now pair.j) (position_of pair.v)) }
     ensures either { result ≡ share_cell (F.Fleet.offsets fleet.now pair.j) (position_of pair.v) (F.Fleet.offsets fleet.now pair.i) (position_of pair.u) }
 {
-    any_offset(&Shared { fleet, pair })
+    any_offset(|dx, dy| is_shared(fleet, pair, dx, dy))
 }
 
 // The first cell, by row and then column, that the two sleds of a pair share.
 pub fn first_shared_cell<F: Fleet>(fleet: &F, pair: Pair) -> Option<Spot>
     ensures { FirstSharedTold (F.Fleet.offsets fleet.now pair.i) (position_of pair.u) (F.Fleet.offsets fleet.now pair.j) (position_of pair.v) result }
 {
-    let offset = first_offset(&Shared { fleet, pair })?;
+    let offset = first_offset(|dx, dy| is_shared(fleet, pair, dx, dy))?;
     Some(cell_by(pair.u, offset.dx, offset.dy))
 }

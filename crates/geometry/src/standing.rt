@@ -5,7 +5,7 @@ ghost use Rattle.geometry.specs.Stands.{blocked, may_stand, Standing};
 
 use crate::sharing::cell_by;
 use fleet::Fleet;
-use fleet::scan::{OffsetTest, any_offset};
+use fleet::scan::any_offset;
 use grid::cell::Cell;
 use grid::floor::Floor;
 use grid::place::Place;
@@ -21,34 +21,11 @@ fn is_blocked<F: Fleet>(fleet: &F, sled: u8, floor: &Floor, place: Place, dx: i8
     floor.cell(cell.column, cell.row) != Cell::Free
 }
 
-// An offset of a sled at a place that falls on no free cell.
-#[derive(Drop)]
-struct Blocked<'a, F> {
-    fleet: &'a F,
-    sled: u8,
-    floor: &'a Floor,
-    place: Place,
-}
-
-impl<F: Fleet> OffsetTest for Blocked<'_, F> {
-    ghost passes = { λ t. blocked (F.Fleet.offsets t.fleet.now t.sled) t.floor.now (position_of t.place) };
-
-    fn passes_at(&self, dx: i8, dy: i8) -> bool {
-        is_blocked(self.fleet, self.sled, self.floor, self.place, dx, dy)
-    }
-}
-
 // Whether a sled may stand at a place: on the floor, with a free cell by each of its offsets.
 // A sled that the fleet does not have covers no cell, and may stand at every place of the floor.
-pub fn may_stand<'a, F: Fleet>(fleet: &'a F, sled: u8, floor: &'a Floor, place: Place) -> bool
+pub fn may_stand<F: Fleet>(fleet: &F, sled: u8, floor: &Floor, place: Place) -> bool
     ensures value { result ≡ may_stand (F.Fleet.offsets fleet.now sled) floor.now (position_of place) }
     ensures meaning { Decides result (Standing (F.Fleet.offsets fleet.now sled) floor.now (position_of place)) }
 {
-    let blocked = Blocked {
-        fleet,
-        sled,
-        floor,
-        place,
-    };
-    floor.has(place) && !any_offset(&blocked)
+    floor.has(place) && !any_offset(|dx, dy| is_blocked(fleet, sled, floor, place, dx, dy))
 }

@@ -1,8 +1,15 @@
-use Rattle.std.proofs.Common.{rules}
-use Rattle.std.proofs.lemmas.Bool.Decides.{Decides-at}
+use Rattle.std.proofs.Common.{◌≡◌, not, arith, rules}
+use Rattle.std.proofs.lemmas.Bool.Decides.{nat_tests, Decides-at}
 use Rattle.grid.specs.Places.{position_of}
+use Rattle.geometry.specs.Stands.{blocked, may_stand}
 use Rattle.geometry.proofs.Meetings.{stand_told}
 use Rattle.geometry.proofs.standing.may_stand.Goals as goal
 
-pub returns-then-has-clause-meaning : goal.returns-then-has-clause-meaning
-returns-then-has-clause-meaning g c = Decides-at _ _ (search rules) (stand_told _ c.args.floor.now (position_of c.args.place) (g.met.F.Fleet.near c.args.fleet.now c.args.sled))
+pub returns-then-has : goal.returns-then-has
+returns-then-has g c =
+    let f = c.args.fleet.now in
+    let offsets = g.F.Fleet.offsets f c.args.sled in
+    let u = position_of c.args.place in
+    let told = c.any_offset.ensures (blocked offsets c.args.floor.now u) (λ x y near_x near_y r e. search rules) in
+    let value : not c.any_offset.result ≡ may_stand offsets c.args.floor.now u = grind (arith, nat_tests, told, c.if-has.ensures) in
+    record { value = value; meaning = Decides-at _ _ value (stand_told offsets c.args.floor.now u (g.met.F.Fleet.near f c.args.sled)) }
