@@ -7,6 +7,10 @@ use Rattle.geometry.specs.declared.overlap.Moment.TheVariants.{Start, Middle, En
 abbrev pub Short : ℤ → Type 0
 Short z = (negsuc 1 ≤ℤ z) × (z ≤ℤ pos 2)
 
+-- at most 29 cells
+abbrev pub Far : ℤ → Type 0
+Far z = (negsuc 28 ≤ℤ z) × (z ≤ℤ pos 29)
+
 -- twice the distance on an axis, at a moment of a step by a
 abbrev pub twice : Moment → (x a : ℤ) → ℤ
 twice Start x a = pos 2 *ℤ x

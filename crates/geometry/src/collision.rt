@@ -1,110 +1,59 @@
 // Whether two sleds collide in one step.
-ghost use Rattle.std.specs.Prelude.{◌≡◌, ◌≤◌, true, pos, negsuc, ◌+ℤ◌, ◌-ℤ◌, ◌≤ℤ◌, Decides};
+ghost use Rattle.std.specs.Prelude.{◌≡◌, true, pos, ◌+ℤ◌, ◌-ℤ◌, Decides};
 ghost use Rattle.grid.specs.declared.position.Position.{Position};
 ghost use Rattle.grid.specs.Places.{position_of};
 ghost use Rattle.fleet.specs.Offsets.{Near};
-ghost use Rattle.geometry.specs.Overlaps.{Short};
 ghost use Rattle.geometry.specs.Shares.{share_cell};
 ghost use Rattle.geometry.specs.Collisions.{struck, striking, collide, Collision, Leads};
 
-use crate::overlap::overlaps;
+use crate::overlap::Apart;
+use crate::pair::Pair;
 use crate::relative::{Step, relative};
-use crate::sharing::moved;
+use crate::sharing::cell_by;
 use fleet::Fleet;
-use fleet::scan::{OffsetTest, any_offset};
+use fleet::offset::Offset;
+use fleet::scan::any_offset;
 use grid::moves::Move;
-use grid::place::Place;
 
-// How far x lies from a place's column or row that is moved by a part of an offset.
-fn short_of(x: i8, at: u8, by: i8) -> i8
-    requires from { (negsuc 6 ≤ℤ x) × (x ≤ℤ pos 22) }
-    requires low { at ≤ 15 }
-    requires near { Near by }
-    ensures value { result ≡ x -ℤ (pos at +ℤ by) }
-    ensures far { (negsuc 28 ≤ℤ result) × (result ≤ℤ pos 29) }
+// How far the first sled's cell by an offset lies from the second's.
+fn apart(pair: Pair, of_first: Offset, of_second: Offset) -> Apart
+    requires first { Near of_first.dx × Near of_first.dy }
+    requires second { Near of_second.dx × Near of_second.dy }
+    ensures across { result.x ≡ (pos pair.u.column +ℤ of_first.dx) -ℤ (pos pair.v.column +ℤ of_second.dx) }
+    ensures down { result.y ≡ (pos pair.u.row +ℤ of_first.dy) -ℤ (pos pair.v.row +ℤ of_second.dy) }
 {
-    x - (at as i8 + by)
-}
-
-// An offset of the second sled whose cell overlaps with the one at (x, y) during the step.
-#[derive(Drop)]
-struct Struck<'a, F> {
-    fleet: &'a F,
-    second: u8,
-    x: i8,
-    y: i8,
-    v: Place,
-    step: Step,
-    ghost across: { Short step.dx },
-    ghost down: { Short step.dy },
-    ghost left: { negsuc 6 ≤ℤ x },
-    ghost right: { x ≤ℤ pos 22 },
-    ghost up: { negsuc 6 ≤ℤ y },
-    ghost below: { y ≤ℤ pos 22 },
-}
-
-impl<F: Fleet> OffsetTest for Struck<'_, F> {
-    ghost passes = { λ t. struck t.x t.y (F.Fleet.offsets t.fleet.now t.second) (position_of t.v) t.step.dx t.step.dy };
-
-    fn passes_at(&self, dx: i8, dy: i8) -> bool {
-        if !self.fleet.has(self.second, dx, dy) {
-            return false;
-        }
-        overlaps(
-            short_of(self.x, self.v.column, dx),
-            short_of(self.y, self.v.row, dy),
-            self.step,
-        )
+    let first = cell_by(pair.u, of_first.dx, of_first.dy);
+    let second = cell_by(pair.v, of_second.dx, of_second.dy);
+    Apart {
+        x: first.column - second.column,
+        y: first.row - second.row,
     }
 }
 
-// An offset of the first sled whose cell overlaps with one of the second during the step.
-#[derive(Drop)]
-struct Striking<'a, F> {
-    fleet: &'a F,
-    first: u8,
-    second: u8,
-    u: Place,
-    v: Place,
-    step: Step,
-    ghost across: { Short step.dx },
-    ghost down: { Short step.dy },
-}
-
-impl<F: Fleet> OffsetTest for Striking<'_, F> {
-    ghost passes = { λ t. striking (F.Fleet.offsets t.fleet.now t.first) (position_of t.u) (F.Fleet.offsets t.fleet.now t.second) (position_of t.v) t.step.dx t.step.dy };
-
-    fn passes_at(&self, dx: i8, dy: i8) -> bool {
-        if !self.fleet.has(self.first, dx, dy) {
-            return false;
-        }
-        let struck = Struck {
-            fleet: self.fleet,
-            second: self.second,
-            x: moved(self.u.column, dx),
-            y: moved(self.u.row, dy),
-            v: self.v,
-            step: self.step,
-        };
-        any_offset(&struck)
-    }
-}
-
-// Whether sled i, moving by a from u, and sled j, moving by b from v, collide.
-pub fn collides<F: Fleet>(fleet: &F, i: u8, u: Place, a: Move, j: u8, v: Place, b: Move) -> bool
-    ensures value { result ≡ collide (F.Fleet.offsets fleet.now i) (position_of u) a (F.Fleet.offsets fleet.now j) (position_of v) b }
-    ensures meaning { Decides result (Collision (F.Fleet.offsets fleet.now i) (position_of u) a (F.Fleet.offsets fleet.now j) (position_of v) b) }
-    ensures either { result ≡ collide (F.Fleet.offsets fleet.now j) (position_of v) b (F.Fleet.offsets fleet.now i) (position_of u) a }
-    ensures start { share_cell (F.Fleet.offsets fleet.now i) (position_of u) (F.Fleet.offsets fleet.now j) (position_of v) ≡ true → result ≡ true }
-    ensures end { (w z : Position) → Leads (position_of u) a w → Leads (position_of v) b z → share_cell (F.Fleet.offsets fleet.now i) w (F.Fleet.offsets fleet.now j) z ≡ true → result ≡ true }
+// Whether an offset is one of the second sled and its cell overlaps with one of the first sled's during the step.
+fn is_struck<F: Fleet>(fleet: &F, pair: Pair, of_first: Offset, step: Step, dx: i8, dy: i8) -> bool
+    requires { Near of_first.dx × Near of_first.dy }
+    ensures { result ≡ struck (pos pair.u.column +ℤ of_first.dx) (pos pair.u.row +ℤ of_first.dy) (F.Fleet.offsets fleet.now pair.j) (position_of pair.v) step.dx step.dy dx dy }
 {
-    let striking = Striking {
-        fleet,
-        first: i,
-        second: j,
-        u,
-        v,
-        step: relative(a, b),
-    };
-    any_offset(&striking)
+    fleet.has(pair.j, dx, dy) && apart(pair, of_first, Offset { dx, dy }).overlaps(step)
+}
+
+// Whether an offset is one of the first sled and its cell overlaps with one of the second during the step.
+fn strikes<F: Fleet>(fleet: &F, pair: Pair, step: Step, dx: i8, dy: i8) -> bool
+    ensures { result ≡ striking (F.Fleet.offsets fleet.now pair.i) (position_of pair.u) (F.Fleet.offsets fleet.now pair.j) (position_of pair.v) step.dx step.dy dx dy }
+{
+    fleet.has(pair.i, dx, dy)
+        && any_offset(|x, y| is_struck(fleet, pair, Offset { dx, dy }, step, x, y))
+}
+
+// Whether the first sled of a pair, moving by a, and the second, moving by b, collide.
+pub fn collides<F: Fleet>(fleet: &F, pair: Pair, a: Move, b: Move) -> bool
+    ensures value { result ≡ collide (F.Fleet.offsets fleet.now pair.i) (position_of pair.u) a (F.Fleet.offsets fleet.now pair.j) (position_of pair.v) b }
+    ensures meaning { Decides result (Collision (F.Fleet.offsets fleet.now pair.i) (position_of pair.u) a (F.Fleet.offsets fleet.now pair.j) (position_of pair.v) b) }
+    ensures either { result ≡ collide (F.Fleet.offsets fleet.now pair.j) (position_of pair.v) b (F.Fleet.offsets fleet.now pair.i) (position_of pair.u) a }
+    ensures start { share_cell (F.Fleet.offsets fleet.now pair.i) (position_of pair.u) (F.Fleet.offsets fleet.now pair.j) (position_of pair.v) ≡ true → result ≡ true }
+    ensures end { (w z : Position) → Leads (position_of pair.u) a w → Leads (position_of pair.v) b z → share_cell (F.Fleet.offsets fleet.now pair.i) w (F.Fleet.offsets fleet.now pair.j) z ≡ true → result ≡ true }
+{
+    let step = relative(a, b);
+    any_offset(|dx, dy| strikes(fleet, pair, step, dx, dy))
 }

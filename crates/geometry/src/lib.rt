@@ -3,6 +3,7 @@
 
 pub mod collision;
 mod overlap;
+pub mod pair;
 pub mod relative;
 pub mod sharing;
 pub mod spot;

@@ -1,8 +1,17 @@
 // Whether two cells overlap during a step: it is enough to look at its start, its middle and its end.
-ghost use Rattle.std.specs.Prelude.{◌≡◌, pos, negsuc, ◌≤ℤ◌};
-ghost use Rattle.geometry.specs.Overlaps.{Short, twice, small, overlap_at, overlap};
+ghost use Rattle.std.specs.Prelude.{◌≡◌};
+ghost use Rattle.geometry.specs.Overlaps.{Far, twice, small, overlap_at, overlap};
 
 use crate::relative::Step;
+
+// How far apart two cells are, across and down.
+#[derive(Clone, Copy)]
+pub(crate) struct Apart {
+    pub(crate) x: i8,
+    pub(crate) y: i8,
+    ghost across: { Far x },
+    ghost down: { Far y },
+}
 
 #[derive(Clone, Copy)]
 enum Moment {
@@ -11,16 +20,35 @@ enum Moment {
     End,
 }
 
-// Twice the distance on an axis, at a moment of a relative step.
-fn doubled(moment: Moment, x: i8, step: i8) -> i8
-    requires far { (negsuc 28 ≤ℤ x) × (x ≤ℤ pos 29) }
-    requires step { Short step }
-    ensures { result ≡ twice moment x step }
-{
-    match moment {
-        Moment::Start => 2 * x,
-        Moment::Middle => 2 * x + step,
-        Moment::End => 2 * x + 2 * step,
+impl Apart {
+    // Twice how far apart they are at a moment of a relative step, across and down.
+    fn doubled(self, moment: Moment, step: Step) -> (i8, i8)
+        ensures across { result.0 ≡ twice moment self.x step.dx }
+        ensures down { result.1 ≡ twice moment self.y step.dy }
+    {
+        let (x, y) = (2 * self.x, 2 * self.y);
+        match moment {
+            Moment::Start => (x, y),
+            Moment::Middle => (x + step.dx, y + step.dy),
+            Moment::End => (x + 2 * step.dx, y + 2 * step.dy),
+        }
+    }
+
+    // Whether they overlap at a moment of a relative step.
+    fn overlaps_at(self, moment: Moment, step: Step) -> bool
+        ensures { result ≡ overlap_at moment self.x self.y step.dx step.dy }
+    {
+        let (x, y) = self.doubled(moment, step);
+        is_small(x) && is_small(y)
+    }
+
+    // Whether they overlap at the start, the middle or the end.
+    pub(crate) fn overlaps(self, step: Step) -> bool
+        ensures { result ≡ overlap self.x self.y step.dx step.dy }
+    {
+        [Moment::Start, Moment::Middle, Moment::End]
+            .iter()
+            .any(|moment| self.overlaps_at(*moment, step))
     }
 }
 
@@ -28,26 +56,4 @@ fn is_small(z: i8) -> bool
     ensures { result ≡ small z }
 {
     -2 < z && z < 2
-}
-
-// Whether two cells, x and y apart, overlap at a moment of a relative step.
-fn overlap_at(moment: Moment, x: i8, y: i8, step: Step) -> bool
-    requires across { (negsuc 28 ≤ℤ x) × (x ≤ℤ pos 29) }
-    requires down { (negsuc 28 ≤ℤ y) × (y ≤ℤ pos 29) }
-    requires short { Short step.dx × Short step.dy }
-    ensures { result ≡ overlap_at moment x y step.dx step.dy }
-{
-    is_small(doubled(moment, x, step.dx)) & is_small(doubled(moment, y, step.dy))
-}
-
-// Whether they overlap at the start, the middle or the end.
-pub(crate) fn overlaps(x: i8, y: i8, step: Step) -> bool
-    requires across { (negsuc 28 ≤ℤ x) × (x ≤ℤ pos 29) }
-    requires down { (negsuc 28 ≤ℤ y) × (y ≤ℤ pos 29) }
-    requires short { Short step.dx × Short step.dy }
-    ensures { result ≡ overlap x y step.dx step.dy }
-{
-    overlap_at(Moment::Start, x, y, step)
-        | overlap_at(Moment::Middle, x, y, step)
-        | overlap_at(Moment::End, x, y, step)
 }

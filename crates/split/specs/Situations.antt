@@ -3,8 +3,8 @@ use Rattle.std.specs.Prelude.{◌≡◌, ℕ, Bool, true, ◌&&◌, nat_le, nat_
 use Rattle.grid.specs.declared.position.Position.{Position}
 use Rattle.grid.specs.Places.{position_of}
 use Rattle.fleet.specs.Offsets.{Sleds, FleetTerms}
+use Rattle.geometry.specs.declared.pair.Pair.{Pair}
 use Rattle.geometry.specs.Shares.{share_cell}
-use Rattle.split.specs.declared.pair.Pair.{Pair}
 use Rattle.split.specs.declared.pair.Side.{Side}
 use Rattle.split.specs.declared.pair.Side.TheVariants.{Lower, Upper}
 

@@ -8,7 +8,7 @@ ghost use Rattle.std.proofs.Common.{rules};
 
 use crate::SplitRule;
 use crate::pair::{Pair, Side};
-use crate::single::{do_meet, is_same};
+use crate::single::do_meet;
 use fleet::Fleet;
 use geometry::sharing::shares_cell;
 use grid::place::Place;
@@ -32,12 +32,10 @@ impl SplitRule for OneSided {
     ghost only = { Prim.search rules };
 
     fn contains<F: Fleet>(&self, fleet: &F, pair: Pair, side: Side, w: Place) -> bool {
-        if !do_meet(fleet, pair) {
-            return false;
-        }
-        match side {
-            Side::Lower => is_same(pair.u, w),
-            Side::Upper => shares_cell(fleet, pair.i, pair.u, pair.j, w),
-        }
+        do_meet(fleet, pair)
+            && match side {
+                Side::Lower => w == pair.u,
+                Side::Upper => shares_cell(fleet, Pair { v: w, ..pair }),
+            }
     }
 }

@@ -1,14 +1,5 @@
-// Two sleds and where they are.
-use grid::place::Place;
-
-// Sled i at u and sled j at v.
-#[derive(Clone, Copy)]
-pub struct Pair {
-    pub i: u8,
-    pub j: u8,
-    pub u: Place,
-    pub v: Place,
-}
+// Two sleds and where they are, and the two sides of a pair.
+pub use geometry::pair::Pair;
 
 // The sled with the lower number, or the other.
 #[derive(Clone, Copy, PartialEq, Debug)]

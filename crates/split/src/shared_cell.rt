@@ -45,11 +45,12 @@ fn covers_first_shared<F: Fleet>(fleet: &F, pair: Pair, side: Side, w: Place) ->
     if pair.i >= pair.j {
         return false;
     }
-    let Some(cell) = first_shared_cell(fleet, pair.i, pair.u, pair.j, pair.v) else {
+    let Some(cell) = first_shared_cell(fleet, pair) else {
         return false;
     };
-    match side {
-        Side::Lower => covers_cell(fleet, pair.i, w, cell),
-        Side::Upper => covers_cell(fleet, pair.j, w, cell),
-    }
+    let sled = match side {
+        Side::Lower => pair.i,
+        Side::Upper => pair.j,
+    };
+    covers_cell(fleet, sled, w, cell)
 }

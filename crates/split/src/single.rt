@@ -1,8 +1,7 @@
 // The rule of just the two places.
 ghost use Rattle.std.specs.Prelude.{◌≡◌};
-ghost use Rattle.grid.specs.Places.{position_of};
 ghost use Rattle.split.specs.Situations.{situation, meet};
-ghost use Rattle.split.specs.Rules.{same_place, single_sets};
+ghost use Rattle.split.specs.Rules.{single_sets};
 ghost use Rattle.std.proofs.Common.{rules};
 
 use crate::SplitRule;
@@ -14,16 +13,10 @@ use grid::place::Place;
 #[derive(Clone, Copy)]
 pub struct Single;
 
-pub(crate) fn is_same(u: Place, w: Place) -> bool
-    ensures { result ≡ same_place (position_of u) (position_of w) }
-{
-    u.column == w.column && u.row == w.row
-}
-
 pub(crate) fn do_meet<F: Fleet>(fleet: &F, pair: Pair) -> bool
     ensures { result ≡ meet (situation (F.Fleet.size fleet.now) (F.Fleet.offsets fleet.now) pair) }
 {
-    pair.i < pair.j && shares_cell(fleet, pair.i, pair.u, pair.j, pair.v)
+    pair.i < pair.j && shares_cell(fleet, pair)
 }
 
 impl SplitRule for Single {
@@ -38,12 +31,10 @@ impl SplitRule for Single {
     ghost only = { Prim.search rules };
 
     fn contains<F: Fleet>(&self, fleet: &F, pair: Pair, side: Side, w: Place) -> bool {
-        if !do_meet(fleet, pair) {
-            return false;
-        }
-        match side {
-            Side::Lower => is_same(pair.u, w),
-            Side::Upper => is_same(pair.v, w),
-        }
+        do_meet(fleet, pair)
+            && match side {
+                Side::Lower => w == pair.u,
+                Side::Upper => w == pair.v,
+            }
     }
 }
