@@ -4,9 +4,9 @@ ghost use Rattle.fleet.specs.SkirtFleets.{skirt, reaches_past, is_cut, margin_of
 ghost use Rattle.fleet.specs.Skirts.{skirt_told, within_more};
 ghost use Rattle.std.proofs.Common.{rules, arith};
 
+use crate::Fleet;
 use crate::scan::{REACH, any_beside, any_offset, is_within};
 use crate::skirt::{Margin, Skirt};
-use crate::{Fleet, MAX_SLEDS};
 use fault::cause::{Cause, Fault};
 
 const MAX_MARGIN: u8 = 3;
@@ -85,9 +85,8 @@ impl<F: Fleet> Fleet for Skirt<F> {
         ensures value { result ≡ skirt (margin_of self.now sled) (F.Fleet.offsets self.now.inner sled) dx dy }
         ensures meaning { Decides result (Skirted (margin_of self.now sled) (F.Fleet.offsets self.now.inner sled) dx dy) }
     {
-        if sled as usize >= MAX_SLEDS {
-            return false;
-        }
-        self.skirt_has(sled, self.margins[sled as usize].cells, dx, dy)
+        self.margins
+            .get(sled as usize)
+            .is_some_and(|margin| self.skirt_has(sled, margin.cells, dx, dy))
     }
 }
