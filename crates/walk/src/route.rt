@@ -62,10 +62,10 @@ fn trace<S: Steps<bool>>(
     places[0] = at;
     for instant in 0..cost {
         let left = cost - instant - 1;
-        match choose(steps, instant, at, &table[left as usize]) {
-            Some(to) => at = to,
-            None => unreachable(),
-        }
+        let Some(to) = choose(steps, instant, at, &table[left as usize]) else {
+            unreachable()
+        };
+        at = to;
         places[instant as usize + 1] = at;
     }
     places
