@@ -28,10 +28,7 @@ pub and_true : (b : Bool) → (b && true) ≡ b
 and_true true = refl
 and_true false = refl
 
--- one step of waiting, and none
-pub waits_more : (a : ℕ → ℕ → ℕ → Bool) (goal n t : ℕ) → t < n → waits a goal t (n - t) ≡ (a t goal goal && waits a goal (t + 1) (n - (t + 1)))
-waits_more a goal n t l = let one_more : n - t ≡ suc (n - (t + 1)) = omega arith in ap (waits a goal t) one_more
-
+-- to wait for no step is allowed
 pub waits_all : (a : ℕ → ℕ → ℕ → Bool) (goal n t : ℕ) → n ≤ t → waits a goal t (n - t) ≡ true
 waits_all a goal n t l = let none : n - t ≡ 0 = omega arith in ap (waits a goal t) none
 

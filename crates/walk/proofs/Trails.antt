@@ -2,6 +2,7 @@
 use Rattle.std.proofs.Common.{◌≡◌, ℕ, suc, ◌+◌, ◌-◌, ◌<◌, ◌≤◌, Bool, true, false, ◌&&◌, eqb, List, [], ◌∷◌, ◌++◌, length, get_or, set, replicate, find, Some, None, Option, sym, refl, ap, ◌∙◌, arith}
 use Rattle.std.specs.Option.{option_map}
 use Rattle.std.proofs.ByRecursion.{All-weaker}
+use Rattle.std.proofs.lemmas.Iterator.Adapters.{option_map_id}
 use Rattle.std.proofs.lemmas.List.{append_assoc, set_at, length_push, replicate-append-replicate}
 use Rattle.std.proofs.lemmas.Bool.{and_parts, eqb-true}
 use Rattle.grid.specs.Board.{next}
@@ -15,10 +16,6 @@ use Rattle.walk.proofs.Firsts.{first_same, first_some, first_passes, first_holds
 use Rattle.walk.proofs.Fits.{fits}
 use Rattle.walk.proofs.Reach.{first_step, first_stay, cond_same}
 use Rattle.walk.proofs.Totals.{total_zero, total_first}
-
-pub mapped_same : {A : Type 0} (f : A → A) → ((x : A) → f x ≡ x) → (o : Option A) → option_map f o ≡ o
-mapped_same f h None = refl
-mapped_same f h (Some x) = ap Some (h x)
 
 mapped_mapped : {A B C : Type 0} (f : B → C) (g : A → B) (k : A → C) → ((x : A) → f (g x) ≡ k x) → (o : Option A) → option_map f (option_map g o) ≡ option_map k o
 mapped_mapped f g k h None = refl
@@ -54,7 +51,7 @@ module _ (a : ℕ → ℕ → ℕ → Bool) (goal c n start : ℕ) where
         held = ap (λ xs. set xs 0 start) e;
         leads = ap (λ i. total either_both a i 0 start goal) (sym whole) ∙ go;
         place = place;
-        same = mapped_same (λ s. [] ++ s) (λ s. refl) _ ∙ ap (λ i. find (fits a goal i 0 start) (sequences (n - 0) start)) (sym whole) ∙ ap (λ i. find (fits a goal c 0 start) (sequences i start)) (sym all);
+        same = option_map_id _ ∙ ap (λ i. find (fits a goal i 0 start) (sequences (n - 0) start)) (sym whole) ∙ ap (λ i. find (fits a goal c 0 start) (sequences i start)) (sym all);
       }
 
   module _ (room : goal < 256) (c≤n : c ≤ n) (n≤63 : n ≤ 63) (kept : waits a goal c (n - c) ≡ true) (t p : ℕ) (places : List ℕ) (now : Trail t p places) where

@@ -17,6 +17,7 @@ pub(crate) fn chart<W: Weight + Copy, S: Steps<W>>(
     ensures { (k : ℕ) → k ≤ count → Row W.ops (total W.ops (S.step steps.now) k 0 start) (slice_index_or result k []) }
 {
     let mut table = [begin(start); MAX_INSTANTS];
+    // By hand: each row is made from the row before it.
     for done in 0..count {
         table[done as usize + 1] = advance(steps, done, &table[done as usize]);
     }

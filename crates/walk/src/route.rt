@@ -24,12 +24,7 @@ pub struct Found {
 }
 
 // The first place one step from `from` to which a step is allowed and that leads on to the goal.
-fn choose<'a, S: Steps<bool>>(
-    steps: &'a S,
-    instant: u8,
-    from: u8,
-    leads: &'a Layer<bool>,
-) -> Option<u8>
+fn choose<S: Steps<bool>>(steps: &S, instant: u8, from: u8, leads: &Layer<bool>) -> Option<u8>
     ensures { result ≡ find (λ q. S.step steps.now instant from q && slice_index_or leads.now q false) (next from) }
 {
     MOVES
@@ -60,12 +55,13 @@ fn trace<S: Steps<bool>>(
     let mut places = [goal; MAX_INSTANTS];
     let mut at = start;
     places[0] = at;
+    // By hand: each place is chosen from the place before it.
     for instant in 0..cost {
         let left = cost - instant - 1;
-        match choose(steps, instant, at, &table[left as usize]) {
-            Some(to) => at = to,
-            None => unreachable(),
-        }
+        let Some(to) = choose(steps, instant, at, &table[left as usize]) else {
+            unreachable()
+        };
+        at = to;
         places[instant as usize + 1] = at;
     }
     places

@@ -1,16 +1,26 @@
-use Rattle.std.proofs.Common.{ℕ, get_or, ap, ◌∙◌, rules, tests}
-use Rattle.std.proofs.lemmas.Iterator.{YieldsList-from_slice}
-use Rattle.std.proofs.lemmas.Iterator.Consumers.{fold_from_yields_List, YieldsList-from_filter_map}
-use Rattle.grid.specs.Board.{side, every_move}
-use Rattle.walk.proofs.Sides.{next_is, summed_is}
-use Rattle.walk.specs.Semiring.{summed}
+use Rattle.std.proofs.Common.{◌<◌, length, ap, ◌∙◌, ap₂, rules}
+use Rattle.std.proofs.lemmas.List.{get_or_default}
+use Rattle.walk.proofs.Sides.{sum_none, sum_past_none, sum_past, sum_all}
 use Rattle.walk.proofs.layers.gather.Goals as goal
+use Rattle.walk.proofs.layers.gather.Goals.{in-Some, in_default}
+
+pub loop-towards-init : goal.loop-towards-init
+loop-towards-init g c = sum_none g.W.Weight.ops g.met.W.Weight.laws _ c.args.to c.nought-sum.result c.nought-sum.ensures
+
+pub loop-towards-preserved : goal.loop-towards-preserved
+loop-towards-preserved g c =
+    let o = g.W.Weight.ops in
+    let laws = g.met.W.Weight.laws in
+    let before = c.loop-towards.sum in
+    let k = c.loop-towards.towards-index in
+    elim c.match-neighbour.branch [
+      | in-Some w ↦
+          let within : w.in-Some.from < length c.args.row.now = search rules in
+          let term = w.times.ensures ∙ ap₂ o.mul (get_or_default c.args.row.now w.in-Some.from w.index-row-from.result o.nought within) w.weight-weight.ensures in
+          rw (w.sum-is ∙ w.plus-sum.ensures ∙ ap (o.add before) term)
+          (sum_past o laws _ c.args.to k before c.loop-towards.invariant _ w.in-Some.from c.loop-towards-test.true w.in-Some.ensures.side_is)
+      | in_default w ↦ rw w.sum-is (sum_past_none o laws _ c.args.to k before c.loop-towards.invariant _ c.loop-towards-test.true w.in_default.ensures.side_is)
+    ]
 
 pub returns : goal.returns
-returns g c =
-    let o = g.W.Weight.ops in
-    let f : ℕ → g.row.W.Denot = λ p. o.mul (get_or c.args.row.now p o.nought) (g.S.Steps.step c.args.steps.now c.args.instant p c.args.to) in
-    fold_from_yields_List _ (λ sum p. o.add sum (f p)) _ _ c.fold.ensures.ran
-    (YieldsList-from_filter_map _ (side c.args.to) (YieldsList-from_slice every_move (cc)) c.filter_map.ensures.closure (λ x r q k. search (rules, tests)))
-    (λ a x b q k. search (rules, tests))
-    ∙ summed_is o g.met.W.Weight.laws f c.nought.result _ c.nought.ensures ∙ ap (summed o f) (next_is c.args.to)
+returns g c = sum_all g.W.Weight.ops g.met.W.Weight.laws _ c.args.to c.loop-towards.towards-index c.loop-towards.sum c.loop-towards.invariant c.loop-towards-test.false

@@ -16,7 +16,7 @@ unreachable-requires g c =
     let t = c.loop-instant.instant in
     let kept = waits_all a goal cost cost (omega arith) in
     traced_some a goal cost cost start (omega arith) (omega arith) (omega arith) kept t c.loop-instant.at c.loop-instant.places (c.loop-instant.invariant cost (omega arith) (omega arith) kept)
-    _ c.loop-instant-test.true (open_row a goal cost cost start c.args.table.now c.requires.charted t c.loop-instant-test.true) c.in-None.ensures
+    _ c.loop-instant-test.true (open_row a goal cost cost start c.args.table.now c.requires.charted t c.loop-instant-test.true) c.in_default.ensures
 
 pub loop-instant-preserved : goal.loop-instant-preserved
 loop-instant-preserved g c n c≤n n≤63 kept =
