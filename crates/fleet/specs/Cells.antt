@@ -1,15 +1,12 @@
--- Cells of a drawn outline. Assumes nothing.
-use Rattle.std.specs.Prelude.{◌≡◌, ℕ, ◌+◌, ◌-◌, ◌/◌, ◌%◌, ◌^◌, ◌<◌, true, false, not, ◌⊎◌, List, ℤ, pos, Decides, ◌==◌, ◌≢◌, int_lt, slice_index, unsigned_abs, refl}
-use Rattle.std.proofs.Common.{◌∙◌, ⊎_elim, inl, inr, arith}
+-- Cells of a drawn outline.
+use Rattle.std.proofs.Common.{◌≡◌, ℕ, ◌+◌, ◌-◌, ◌/◌, ◌%◌, ◌^◌, ◌<◌, true, not, ◌⊎◌, List, take, ℤ, pos, ◌==◌, ◌≢◌, slice_index, sym, ◌∙◌, ⊎_elim, inl, inr, arith}
 use Rattle.std.proofs.lemmas.Bool.{cases_eq, eq-eqb}
-use Rattle.std.proofs.lemmas.Bool.Decides.{nat_tests, Decides-below_or, Decides-not, Decides-eqb}
-use Rattle.std.proofs.lemmas.Int.{ints}
+use Rattle.std.proofs.lemmas.Bool.Decides.{nat_tests}
+use Rattle.std.proofs.lemmas.Grind.{get_or_default_zero}
+use Rattle.std.proofs.lemmas.List.{length-take, get_or-take}
+use Rattle.std.proofs.lemmas.List.Folds.{Any-from_list_any}
 use Rattle.std.proofs.lemmas.Nat.{mod-pow-add, mod_below}
-use Rattle.fleet.specs.Outlined.{drawn_below, is_drawn}
-use Rattle.fleet.specs.Outlined.{bit_of, outline}
-
-pub cell_inside : (rows : List ℕ) (x y : ℤ) → int_lt x (pos 0) ≡ false → int_lt (pos 7) x ≡ false → int_lt y (pos 0) ≡ false → int_lt (pos 7) y ≡ false → bit_of (slice_index rows (unsigned_abs y)) (unsigned_abs x) ≡ outline rows x y
-cell_inside rows x y a b c d = grind (arith, nat_tests, ints, a, b, c, d)
+use Rattle.fleet.specs.Outlined.{is_drawn, bit_of, outline}
 
 set_or_not : (b x : ℕ) → (bit_of b x ≡ true) ⊎ (b / 2 ^ (7 - x) % 2 ≢ 1)
 set_or_not b x = ⊎_elim (λ e. inl (eq-eqb _ _ e)) (λ n. inr n) (cases_eq (b / 2 ^ (7 - x) % 2) 1)
@@ -41,18 +38,10 @@ some_bit b h =
     absurd (h (low b 7 e7 n0)))
     (set_or_not b 7)) (set_or_not b 6)) (set_or_not b 5)) (set_or_not b 4)) (set_or_not b 3)) (set_or_not b 2)) (set_or_not b 1)) (set_or_not b 0)
 
-row_told : (rows : List ℕ) (n : ℕ) → Decides (drawn_below rows n) ((k : ℕ) × (k < n) × (slice_index rows k % 256 ≢ 0))
-row_told rows =
-    Decides-below_or (λ k. not (slice_index rows k % 256 == 0)) (λ k. slice_index rows k % 256 ≢ 0) (drawn_below rows)
-    (λ k. Decides-not _ (Decides-eqb (slice_index rows k % 256) 0)) refl (λ _. refl)
-
 pub some_cell : (rows : List ℕ) → is_drawn rows ≡ true → (x : ℤ) × (y : ℤ) × (outline rows x y ≡ true)
-unfolding is_drawn
 some_cell rows h =
-    let (k, below, not_zero) = (row_told rows 8).0 h in
-    let (x, within, bit) = some_bit (slice_index rows k) not_zero in
-    (pos x, pos k, grind (arith, nat_tests, below, within, bit))
-
-pub row_found : (rows : List ℕ) (k : ℕ) → k < 8 → slice_index rows k < 256 → (slice_index rows k ≢ 0) → is_drawn rows ≡ true
-unfolding is_drawn
-row_found rows k below fits h = (row_told rows 8).1 (k, below, λ e. h (omega arith))
+    let (k, row, below, is, not_zero) = Any-from_list_any (λ row. not (row % 256 == 0)) (take 8 rows) h in
+    let eight = length-take 8 rows in
+    let at : slice_index rows k ≡ row = sym (get_or_default_zero rows k row (omega arith)) ∙ (sym (get_or-take 8 rows k row (omega arith)) ∙ is) in
+    let (x, within, bit) = some_bit row (grind (arith, nat_tests, not_zero)) in
+    (pos x, pos k, grind (arith, nat_tests, below, eight, within, bit, at))

@@ -6,8 +6,9 @@ pub mod Outlined
 pub mod RectangleFleets
 pub mod Refusals
 pub mod Scans
+pub mod ShapeFleets
 pub mod SkirtFleets
-pub mod ListsLemmas
-pub mod Cells
 pub mod Skirts
 pub mod ScansLemmas
+pub mod Cells
+pub mod SledLists

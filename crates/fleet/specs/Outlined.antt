@@ -1,5 +1,6 @@
 -- Outlines drawn in eight bytes, one a row.
-use Rattle.std.specs.Prelude.{ℕ, zero, suc, ◌-◌, ◌/◌, ◌%◌, ◌^◌, Bool, false, not, ◌&&◌, ◌||◌, List, ◌==◌, slice_index, unsigned_abs}
+use Rattle.std.specs.Prelude.{ℕ, ◌-◌, ◌/◌, ◌%◌, ◌^◌, Bool, not, ◌&&◌, List, ◌==◌, take, slice_index, unsigned_abs}
+use Rattle.std.specs.List.{list_any}
 use Rattle.grid.specs.Floors.{from_0_below}
 use Rattle.fleet.specs.Offsets.{Offsets}
 
@@ -11,11 +12,6 @@ bit_of row x = row / 2 ^ (7 - x) % 2 == 1
 abbrev pub outline : List ℕ → Offsets
 outline rows x y = (from_0_below x 8 && from_0_below y 8) && bit_of (slice_index rows (unsigned_abs y)) (unsigned_abs x)
 
--- one of the first n rows, a byte each, is not empty
-abbrev pub drawn_below : List ℕ → ℕ → Bool
-drawn_below rows zero = false
-drawn_below rows (suc n) = not (slice_index rows n % 256 == 0) || drawn_below rows n
-
--- the outline is not empty
-unfoldable pub is_drawn : List ℕ → Bool
-is_drawn rows = drawn_below rows 8
+-- the outline is not empty: one of its eight rows, a byte each, is not 0
+abbrev pub is_drawn : List ℕ → Bool
+is_drawn rows = list_any (λ row. not (row % 256 == 0)) (take 8 rows)

@@ -9,6 +9,7 @@ pub mod offset;
 pub mod outlines;
 pub mod rectangles;
 pub mod scan;
+pub mod shapes;
 pub mod skirt;
 
 pub const MAX_SLEDS: usize = 6;

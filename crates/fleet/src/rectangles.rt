@@ -1,11 +1,14 @@
 // Rectangular sleds.
-ghost use Rattle.std.specs.Prelude.{◌≡◌, ◌≤◌, length};
+ghost use Rattle.std.specs.Prelude.{◌≡◌, ◌≤◌};
 
-mod calls;
+use crate::shapes::{Shape, Shapes};
+use fault::cause::{Cause, Fault};
+
+const MAX_SIDE: u8 = 8;
 
 // Sides from 1 to 8.
 #[derive(Clone, Copy)]
-struct Rectangle {
+pub struct Rectangle {
     width: u8,
     height: u8,
     ghost wide: { 1 ≤ width },
@@ -14,11 +17,60 @@ struct Rectangle {
     ghost short: { height ≤ 8 },
 }
 
-// The first `count` entries are sleds.
-#[derive(Clone, Copy)]
-pub struct Rectangles {
-    rectangles: [Rectangle; 6],
-    count: u8,
-    ghost few: { count ≤ 6 },
-    ghost whole: { length rectangles ≡ 6 },
+pub type Rectangles = Shapes<Rectangle>;
+
+impl TryFrom<(u8, u8)> for Rectangle {
+    type Error = Fault;
+
+    ghost use Rattle.fleet.specs.RectangleFleets.{IsRectangle};
+
+    ghost try_from_gives = { IsRectangle };
+
+    fn try_from((width, height): (u8, u8)) -> Result<Rectangle, Fault> {
+        let sides = 1..=MAX_SIDE;
+        if !sides.contains(&width) || !sides.contains(&height) {
+            return Err(Cause::ValueOutsideLimits.at(0));
+        }
+        Ok(Rectangle { width, height })
+    }
+}
+
+impl Shape for Rectangle {
+    ghost use Rattle.std.specs.Prelude.{pos};
+    ghost use Rattle.std.proofs.Common.{arith};
+    ghost use Rattle.std.proofs.lemmas.Int.{ints};
+    ghost use Rattle.std.proofs.lemmas.Bool.Decides.{nat_tests};
+    ghost use Rattle.fleet.specs.RectangleFleets.{rectangle};
+
+    ghost covers = { λ r. rectangle r.width r.height };
+
+    ghost near = { λ r x y e. ((Prim.grind (arith, nat_tests, ints, e), Prim.grind (arith, nat_tests, ints, e, r.narrow)), (Prim.grind (arith, nat_tests, ints, e), Prim.grind (arith, nat_tests, ints, e, r.short))) };
+
+    ghost some = { λ r. (pos 0, pos 0, Prim.grind (arith, nat_tests, r.wide, r.tall)) };
+
+    fn has(&self, dx: i8, dy: i8) -> bool {
+        (0..self.width as i8).contains(&dx) && (0..self.height as i8).contains(&dy)
+    }
+}
+
+impl Shapes<Rectangle> {
+    ghost use Rattle.std.specs.Prelude.{[]};
+    ghost use Rattle.fleet.specs.RectangleFleets.{all_sides, Added};
+
+    // No sled yet.
+    pub fn new() -> Rectangles
+        ensures { all_sides result ≡ [] }
+    {
+        Shapes::none(Rectangle {
+            width: 1,
+            height: 1,
+        })
+    }
+
+    // One sled more, of sides from 1 to 8; at most six.
+    pub fn add(&mut self, width: u8, height: u8) -> Result<(), Fault>
+        ensures { Added width height self.old self.new result }
+    {
+        self.join(Rectangle::try_from((width, height))?)
+    }
 }

@@ -18,6 +18,11 @@ position_of p = record { column = p.column; row = p.row }
 abbrev pub place_number : Place → ℕ
 place_number p = number_of (position_of p)
 
+-- n is the number of the place, and the place is the one at n
+pub record HasNumber (p : Place) (n : ℕ) : Type 0 where
+  pub number : place_number p ≡ n
+  pub place : position_of p ≡ position_at n
+
 -- the place at a column and a row; none where one of them is beyond 15
 abbrev pub Placed : (column row : ℕ) → Option Place → Type 0
 Placed column row (Some p) = (p.column ≡ column) × (p.row ≡ row)

@@ -10,17 +10,9 @@ pub fn neighbour(place: u8, towards: Move) -> Option<u8>
 {
     match towards {
         Move::North => place.checked_sub(BOARD_SIDE),
-        Move::West => if place % BOARD_SIDE > 0 {
-            Some(place - 1)
-        } else {
-            None
-        },
+        Move::West => (place % BOARD_SIDE > 0).then(|| place - 1),
         Move::Wait => Some(place),
-        Move::East => if place % BOARD_SIDE < BOARD_SIDE - 1 {
-            Some(place + 1)
-        } else {
-            None
-        },
+        Move::East => (place % BOARD_SIDE < BOARD_SIDE - 1).then(|| place + 1),
         Move::South => place.checked_add(BOARD_SIDE),
     }
 }

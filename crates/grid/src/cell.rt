@@ -1,6 +1,5 @@
 // A cell of the floor, and its byte in a job file.
-ghost use Rattle.std.specs.Prelude.{◌≡◌};
-ghost use Rattle.grid.specs.Cells.{cell_of};
+ghost use Rattle.grid.specs.Cells.{Decodes};
 
 #[derive(Clone, Copy, PartialEq, Debug)]
 pub enum Cell {
@@ -8,15 +7,21 @@ pub enum Cell {
     Free,
 }
 
-impl Cell {
-    // The cell with this byte in a job file, if it is the byte of one.
-    pub fn from_byte(byte: u8) -> Option<Cell>
-        ensures { result ≡ cell_of byte }
-    {
+// A byte that is no cell's.
+#[derive(Clone, Copy, PartialEq, Debug)]
+pub struct NotACell(pub u8);
+
+// The cell with this byte in a job file.
+impl TryFrom<u8> for Cell {
+    type Error = NotACell;
+
+    ghost try_from_gives = { Decodes };
+
+    fn try_from(byte: u8) -> Result<Cell, NotACell> {
         match byte as char {
-            '.' => Some(Cell::Free),
-            '#' => Some(Cell::Pillar),
-            _ => None,
+            '.' => Ok(Cell::Free),
+            '#' => Ok(Cell::Pillar),
+            _ => Err(NotACell(byte)),
         }
     }
 }

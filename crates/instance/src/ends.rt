@@ -35,7 +35,7 @@ fn ends_at(job: &Job, number: usize) -> (u8, u8)
     ensures { Numbers result.0 (sled_of job.now number).start × Numbers result.1 (sled_of job.now number).goal }
 {
     match job.sled(number) {
-        Some(sled) => (sled.start.number(), sled.goal.number()),
+        Some(sled) => (u8::from(sled.start), u8::from(sled.goal)),
         None => (0, 0),
     }
 }

@@ -31,7 +31,7 @@ impl<R: SplitRule> Ruled<R> {
     {
         let mut set = [false; BOARD_PLACES];
         for number in 0..BOARD_PLACES {
-            set[number] = self.holds(side, pair, Place::from_number(number as u8));
+            set[number] = self.holds(side, pair, Place::from(number as u8));
         }
         set
     }
@@ -98,8 +98,8 @@ impl<R: SplitRule> Problem for Ruled<R> {
         let pair = Pair {
             i: i as u8,
             j: j as u8,
-            u: Place::from_number(u),
-            v: Place::from_number(v),
+            u: Place::from(u),
+            v: Place::from(v),
         };
         self.set_of(side, pair)
     }

@@ -44,10 +44,7 @@ fn read_cells(bytes: &[u8]) -> Option<[Cell; 256]>
 {
     let mut cells = [Cell::Pillar; 256];
     for (i, byte) in bytes.iter().enumerate() {
-        match Cell::from_byte(*byte) {
-            Some(cell) => cells[i] = cell,
-            None => return None,
-        }
+        cells[i] = Cell::try_from(*byte).ok()?;
     }
     Some(cells)
 }

@@ -41,7 +41,7 @@ fn put_place(out: &mut [u8], at: Option<usize>, number: u8) -> Option<usize>
     ensures text { Appends out.old at (place_text number) out.new result }
     ensures short { length (place_text number) ≤ 6 }
 {
-    let place = Place::from_number(number);
+    let place = Place::from(number);
     let at = put_text(out, at, b" ");
     let at = put_number(out, at, place.column as usize);
     let at = put_text(out, at, b",");

@@ -48,8 +48,8 @@ fn show_route(
     standing: &Standing,
     horizon: Horizon,
 ) -> anyhow::Result<()> {
-    let start = sled.start.number();
-    let goal = sled.goal.number();
+    let start = u8::from(sled.start);
+    let goal = u8::from(sled.goal);
     match first_route(standing, start, goal, horizon) {
         None => println!(rt; "alone {number} no route")?,
         Some(found) => {
@@ -77,7 +77,7 @@ fn places(rt: &HostRuntime, found: &Found, horizon: Horizon) -> anyhow::Result<S
     let mut text = String::new(rt.alloc());
     for (instant, number) in found.places.iter().enumerate() {
         if instant <= horizon.steps as usize {
-            let place = Place::from_number(*number);
+            let place = Place::from(*number);
             let (column, row) = (place.column, place.row);
             let entry = format!(in rt.alloc(); " {column},{row}")?;
             text.push_str(entry.as_str())?;

@@ -37,7 +37,7 @@ impl<F: Fleet, R: SplitRule> Search<F, R> {
             return Err(Cause::NotSolved.at(0));
         }
         match self.engine.place(&self.problem, sled, instant) {
-            Ok(number) => Ok(Place::from_number(number)),
+            Ok(number) => Ok(Place::from(number)),
             Err(refusal) => Err(told_as_fault(refusal)),
         }
     }

@@ -13,5 +13,5 @@ use std::array;
 pub fn standing_places<F: Fleet>(fleet: &F, sled: u8, floor: &Floor) -> [bool; BOARD_PLACES]
     ensures { StandsAt (F.Fleet.offsets fleet.now sled) floor.now result }
 {
-    array::from_fn(|number| may_stand(fleet, sled, floor, Place::from_number(number as u8)))
+    array::from_fn(|number| may_stand(fleet, sled, floor, Place::from(number as u8)))
 }

@@ -5,6 +5,7 @@ use fleet::convoy::Convoy;
 use fleet::outlines::Outlines;
 use fleet::rectangles::Rectangles;
 use fleet::skirt::Skirt;
+use geometry::pair::Pair;
 use geometry::sharing::shares_cell;
 use grid::moves::Move;
 use grid::place::Place;
@@ -56,11 +57,12 @@ fn tables_answer_as_the_scan(rt: HostRuntime) -> Result<(), Fail> {
     let fleet = two_sleds()?;
     let tabled = Tabled::of(&fleet);
     let differences = Differences::of(&tabled, 0, 1);
-    let u = Place::from_number(0);
+    let u = Place::from(0);
     for number in 0..=255 {
-        let v = Place::from_number(number);
-        assert!(rt; differences.shares_cell(u, v) == shares_cell(&fleet, 0, u, 1, v));
+        let v = Place::from(number);
+        let pair = Pair { i: 0, j: 1, u, v };
+        assert!(rt; differences.shares_cell(u, v) == shares_cell(&fleet, pair));
     }
-    assert!(rt; differences.collides(u, Move::East, Place::from_number(3), Move::West));
+    assert!(rt; differences.collides(u, Move::East, Place::from(3), Move::West));
     Ok(())
 }

@@ -1,6 +1,5 @@
 // Places by column and row, and by number.
-ghost use Rattle.std.specs.Prelude.{◌≡◌};
-ghost use Rattle.grid.specs.Places.{place_number, position_of, position_at, Placed};
+ghost use Rattle.grid.specs.Places.{HasNumber, Placed};
 
 use crate::place::{BOARD_SIDE, Place};
 
@@ -9,25 +8,27 @@ impl Place {
     pub fn new(column: u8, row: u8) -> Option<Place>
         ensures { Placed column row result }
     {
-        if column >= BOARD_SIDE || row >= BOARD_SIDE {
-            return None;
+        match (column, row) {
+            (0..BOARD_SIDE, 0..BOARD_SIDE) => Some(Place { column, row }),
+            _ => None,
         }
-        Some(Place { column, row })
     }
+}
 
-    // The place number: row by row, sixteen to a row.
-    pub fn number(self) -> u8
-        ensures number { result ≡ place_number self }
-        ensures back { position_at result ≡ position_of self }
-    {
-        BOARD_SIDE * self.row + self.column
+// The place number: row by row, sixteen to a row.
+impl From<Place> for u8 {
+    ghost from_gives = { HasNumber };
+
+    fn from(place: Place) -> u8 {
+        BOARD_SIDE * place.row + place.column
     }
+}
 
-    // The place with this number: every byte is the number of one place.
-    pub fn from_number(number: u8) -> Place
-        ensures place { position_of result ≡ position_at number }
-        ensures back { place_number result ≡ number }
-    {
+// The place with this number: every byte is the number of one place.
+impl From<u8> for Place {
+    ghost from_gives = { λ number place. HasNumber place number };
+
+    fn from(number: u8) -> Place {
         Place {
             column: number % BOARD_SIDE,
             row: number / BOARD_SIDE,

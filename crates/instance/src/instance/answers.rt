@@ -59,7 +59,7 @@ impl Instance {
         ensures { result ≡ stands_at (task_in self.now) sled place }
     {
         if sled >= MAX_SLEDS {
-            return self.floor.has(Place::from_number(place));
+            return self.floor.has(Place::from(place));
         }
         self.standing[sled][place as usize]
     }
@@ -98,7 +98,7 @@ impl Instance {
     pub(crate) fn meet(&self, i: usize, j: usize, u: u8, v: u8) -> bool
         ensures { result ≡ meets_at (task_in self.now) i j u v }
     {
-        self.share_cell(i, j, Place::from_number(u), Place::from_number(v))
+        self.share_cell(i, j, Place::from(u), Place::from(v))
     }
 
     // Whether sled i from u to u2 and sled j from v to v2 collide in one step.
@@ -111,7 +111,7 @@ impl Instance {
         let Some(b) = move_between(v, v2) else {
             return self.meet_at_an_end(i, j, u, u2, v, v2);
         };
-        self.collide_moving(i, j, Place::from_number(u), a, Place::from_number(v), b)
+        self.collide_moving(i, j, Place::from(u), a, Place::from(v), b)
     }
 
     // Whether they meet before the step or after it.

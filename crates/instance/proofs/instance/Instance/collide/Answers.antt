@@ -35,8 +35,8 @@ returns c =
     let t = c.args.self.now.fleet in
     let a = c.in-Some.a in
     let b = c.in-Some-move_between.b in
-    let u = c.from_number.ensures.place in
-    let v = c.from_number-2.ensures.place in
+    let u = c.from.ensures.place in
+    let v = c.from-2.ensures.place in
     c.collide_moving.ensures
     ∙ (λ x. collide (tabled_sleds t c.args.i) (u x) a (tabled_sleds t c.args.j) (v x) b)
     ∙ sym (collides_by_moves (task_in c.args.self.now) c.args.i c.args.j c.args.u c.args.u2 c.args.v c.args.v2 a b c.in-Some.ensures c.in-Some-move_between.ensures)

@@ -8,8 +8,8 @@ use Rattle.instance.proofs.instance.Instance.meet.Goals as goal
 pub returns : goal.returns
 returns c =
     let t = c.args.self.now.fleet in
-    let u = c.from_number.ensures.place in
-    let v = c.from_number-2.ensures.place in
+    let u = c.from.ensures.place in
+    let v = c.from-2.ensures.place in
     c.share_cell.ensures
     ∙ (λ x. share_cell (tabled_sleds t c.args.i) (u x) (tabled_sleds t c.args.j) (v x))
     ∙ sym (meets_on_board (task_in c.args.self.now) c.args.i c.args.j c.args.u c.args.v (omega arith) (omega arith))

@@ -11,7 +11,7 @@ loop-number-preserved g c =
     let sets = g.R.SplitRule.sets p.rule (situation p.instance.fleet.count (tabled_sleds p.instance.fleet) c.args.pair) (side_of c.args.side) in
     let inside : at < length c.loop-number.set = omega (arith, c.loop-number.invariant.0, c.loop-number-test.true) in (
       simp length-set c.loop-number.invariant.0,
-      below_more _ _ (λ k h. let ne : k ≢ at = omega arith in rw get_or-set_other (c.loop-number.invariant.1 k h)) (rw get_or-set_same (c.holds.ensures ∙ ap sets c.from_number.ensures.place)),
+      below_more _ _ (λ k h. let ne : k ≢ at = omega arith in rw get_or-set_other (c.loop-number.invariant.1 k h)) (rw get_or-set_same (c.holds.ensures ∙ ap sets c.from.ensures.place)),
     )
 
 pub returns : goal.returns

@@ -38,8 +38,8 @@ returns g c =
     let side = c.args.side in
     let i = c.args.i in
     let j = c.args.j in
-    let u = c.from_number.ensures.place in
-    let v = c.from_number-2.ensures.place in
+    let u = c.from.ensures.place in
+    let v = c.from-2.ensures.place in
     record {
       places = λ w h.
           c.set_of.ensures.places w h
