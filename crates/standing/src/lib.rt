@@ -7,18 +7,11 @@ use fleet::Fleet;
 use geometry::standing::may_stand;
 use grid::floor::Floor;
 use grid::place::{BOARD_PLACES, Place};
+use std::array;
 
 // For each place of the board, by its number, whether the sled may stand there.
-pub fn standing_places<'a, F: Fleet>(
-    fleet: &'a F,
-    sled: u8,
-    floor: &'a Floor,
-) -> [bool; BOARD_PLACES]
+pub fn standing_places<F: Fleet>(fleet: &F, sled: u8, floor: &Floor) -> [bool; BOARD_PLACES]
     ensures { StandsAt (F.Fleet.offsets fleet.now sled) floor.now result }
 {
-    let mut stands = [false; BOARD_PLACES];
-    for number in 0..BOARD_PLACES {
-        stands[number] = may_stand(fleet, sled, floor, Place::from(number as u8));
-    }
-    stands
+    array::from_fn(|number| may_stand(fleet, sled, floor, Place::from(number as u8)))
 }

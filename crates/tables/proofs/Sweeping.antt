@@ -1,5 +1,6 @@
 -- Sharing and colliding by the differences of two sleds.
-use Rattle.std.proofs.Common.{◌≡◌, zero, suc, Bool, true, ◌&&◌, ◌||◌, ◌⊎◌, ℤ, pos, negsuc, ◌+ℤ◌, ◌-ℤ◌, Decides, sym, ◌∙◌, inl, inr, ⊎_elim, arith}
+use Rattle.std.proofs.Common.{◌≡◌, zero, suc, Bool, true, false, ◌&&◌, ◌||◌, ◌⊎◌, [], ◌∷◌, ℤ, pos, negsuc, ◌+ℤ◌, ◌-ℤ◌, Decides, refl, sym, ◌∙◌, inl, inr, ⊎_elim, arith}
+use Rattle.std.specs.List.{list_any}
 use Rattle.std.proofs.lemmas.Int.{ints, by_lt_z}
 use Rattle.std.proofs.lemmas.Bool.{and_parts, and_from, or_cases, or_left, or_right}
 use Rattle.std.proofs.lemmas.Bool.Decides.{same_from_decides}
@@ -101,6 +102,15 @@ swept_told p x step short = (
       f)
       (three (x -ℤ y) step short way),
 )
+
+or_three : (a b c : Bool) → (a || (b || (c || false))) ≡ ((a || b) || c)
+or_three true b c = refl
+or_three false true c = refl
+or_three false false true = refl
+or_three false false false = refl
+
+pub swept_is : (p : ℤ → Bool) (x step : ℤ) → list_any p (x ∷ ((x +ℤ half step) ∷ ((x +ℤ step) ∷ []))) ≡ swept p x step
+swept_is p x step = or_three (p x) (p (x +ℤ half step)) (p (x +ℤ step))
 
 module _ (first : Offsets) (u : Position) (a : Move) (second : Offsets) (v : Position) (b : Move) (near : NearSet first) (near' : NearSet second) where
   abbrev pub sweep : Bool

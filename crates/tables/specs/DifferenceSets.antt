@@ -15,7 +15,7 @@ differences first second x y = some_offset (paired first second x y)
 
 -- what a table of differences says
 abbrev pub difference_set : Differences → Offsets
-difference_set d = set_of 14 d.cells
+difference_set d = set_of 14 d.table.rows
 
 -- the table says the differences between these two sets of offsets
 pub record DifferencesOf (first second : Offsets) (d : Differences) : Type 0 where

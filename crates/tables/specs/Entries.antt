@@ -1,12 +1,11 @@
 -- What a table says.
-use Rattle.std.specs.Prelude.{◌≡◌, ℕ, zero, suc, ◌<◌, Bool, true, false, ◌&&◌, ◌⊎◌, List, ℤ, pos, ◌+ℤ◌, ◌-ℤ◌, neg_ℤ, ◌≤ℤ◌, int_le, slice_index_or, unsigned_abs, refl}
+use Rattle.std.specs.Prelude.{◌≡◌, ℕ, zero, suc, ◌<◌, Bool, true, false, ◌&&◌, ◌⊎◌, List, [], ℤ, pos, ◌+ℤ◌, ◌-ℤ◌, neg_ℤ, ◌≤ℤ◌, int_le, slice_index_or, unsigned_abs, refl}
 use Rattle.std.proofs.Common.{sym, ap, subst, ◌∙◌, ⊎_elim, inl, inr, arith}
 use Rattle.std.proofs.lemmas.Int.{ints}
 use Rattle.std.proofs.lemmas.Bool.{and_parts, and_from, both_ways, cases_Bool, cases_eq}
-use Rattle.std.proofs.lemmas.Nat.{mul-add-lt, div-mul-add, mod-mul-add}
 use Rattle.fleet.specs.Offsets.{Offsets}
 use Rattle.fleet.specs.Scans.{within}
-use Rattle.tables.specs.Tables.{side, place_in, set_of, Says, each_below}
+use Rattle.tables.specs.Tables.{side, set_of, Says, each_below}
 
 module _ (n : ℕ) (z : ℤ) (e : within n z ≡ true) where
   pub bounds : (neg_ℤ (pos n) ≤ℤ z) × (z ≤ℤ pos n)
@@ -19,21 +18,15 @@ module _ (n : ℕ) (z : ℤ) (e : within n z ≡ true) where
   part_at = let (low, high) = bounds in omega (arith, ints)
 
 -- a table that says a set of parts from -n to n is that set
-pub says_set : (n : ℕ) (set : Offsets) (cells : List Bool) → Says n set cells → ((x y : ℤ) → set x y ≡ true → (within n x ≡ true) × (within n y ≡ true)) → (x y : ℤ) → set_of n cells x y ≡ set x y
-says_set n set cells says near x y =
+pub says_set : (n : ℕ) (set : Offsets) (rows : List (List Bool)) → Says n set rows → ((x y : ℤ) → set x y ≡ true → (within n x ≡ true) × (within n y ≡ true)) → (x y : ℤ) → set_of n rows x y ≡ set x y
+says_set n set rows says near x y =
+    let entry = slice_index_or (slice_index_or rows (unsigned_abs (y +ℤ pos n)) []) (unsigned_abs (x +ℤ pos n)) false in
     ⊎_elim
     (λ e.
     let (ex, ey) = and_parts (within n x) (within n y) e in
-    let across = at_below n x ex in
-    let down = at_below n y ey in
-    let a = unsigned_abs (x +ℤ pos n) in
-    let b = unsigned_abs (y +ℤ pos n) in
-    let entry = says (place_in n x y) (mul-add-lt b (side n) a (side n) down across) in
-    let column = ap (λ k. pos k -ℤ pos n) (mod-mul-add b (side n) a across) ∙ part_at n x ex in
-    let row = ap (λ k. pos k -ℤ pos n) (div-mul-add b (side n) a across) ∙ part_at n y ey in
-    ap (λ t. t && slice_index_or cells (place_in n x y) false) e ∙ entry ∙ λ i. set (column i) (row i))
+    ap (λ t. t && entry) e ∙ says _ _ (at_below n x ex) (at_below n y ey) ∙ λ i. set (part_at n x ex i) (part_at n y ey i))
     (λ e.
-    ap (λ t. t && slice_index_or cells (place_in n x y) false) e
+    ap (λ t. t && entry) e
     ∙ ⊎_elim (λ hit. let (ex, ey) = near x y hit in absurd (both_ways _ e (and_from (within n x) (within n y) ex ey))) (λ none. sym none) (cases_Bool (set x y)))
     (cases_Bool (within n x && within n y))
 

@@ -1,5 +1,6 @@
 pub mod DifferenceSets
+pub mod Entries
+pub mod NoTables
 pub mod Sweeps
 pub mod TabledFleets
 pub mod Tables
-pub mod Entries

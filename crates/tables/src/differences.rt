@@ -1,11 +1,10 @@
 // The differences between the offsets of two sleds, as a table.
-ghost use Rattle.std.specs.Prelude.{◌≡◌, length};
+use crate::table::Table;
 
 mod calls;
 
-// Parts from -14 to 14: twenty-nine by twenty-nine entries.
+// Parts from -14 to 14.
 #[derive(Clone, Copy)]
 pub struct Differences {
-    cells: [bool; 841],
-    ghost whole: { length cells ≡ 841 },
+    table: Table<14, 29>,
 }

@@ -1,56 +1,58 @@
-// Tables of sets of offsets, row by row, for parts from -reach to reach.
-ghost use Rattle.std.specs.Prelude.{◌≡◌, ◌*◌, ◌≤◌, true, length, pos, ◌+ℤ◌, ◌-ℤ◌, unsigned_abs};
-ghost use Rattle.fleet.specs.Scans.{within};
-ghost use Rattle.tables.specs.Tables.{side, set_of, Says};
+// A set of offsets as a table of yes and no.
+ghost use Rattle.std.specs.Prelude.{◌≡◌, ◌*◌, ◌<◌, ◌≤◌, pos, ◌-ℤ◌};
+ghost use Rattle.fleet.specs.Offsets.{Offsets};
+ghost use Rattle.fleet.specs.Scans.{TellsBeside};
+ghost use Rattle.tables.specs.Tables.{IsSquare, set_of, Says, RowSays};
 
-use fleet::scan::OffsetTest;
+use fleet::scan::is_within;
+use std::array;
 
-// Writes of each offset whether it passes.
-pub(crate) fn fill<T: OffsetTest>(test: &T, reach: u8, cells: &mut [bool])
-    requires small { reach ≤ 14 }
-    requires whole { length cells.old ≡ side reach * side reach }
-    ensures { Says reach (T.OffsetTest.passes test.now) cells.new }
-{
-    let width = 2 * reach as usize + 1;
-    for k in 0..cells.len() {
-        cells[k] = test.passes_at(part(k % width, reach), part(k / width, reach));
+// Row by row, for parts from -REACH to REACH.
+#[derive(Clone, Copy)]
+pub(crate) struct Table<const REACH: u8, const SIDE: usize> {
+    rows: [[bool; SIDE]; SIDE],
+    ghost square: { IsSquare REACH SIDE },
+}
+
+impl<const REACH: u8, const SIDE: usize> Table<REACH, SIDE> {
+    // The table of the offsets that pass.
+    pub(crate) fn of<T: Fn(i8, i8) -> bool>(test: T) -> Table<REACH, SIDE>
+        requires square { IsSquare REACH SIDE }
+        requires callable { T.IsAlwaysCallable test }
+        ensures { (set : Offsets) → TellsBeside REACH (pos 0) (pos 0) (T.post test) set → Says REACH set result.rows }
+    {
+        Table {
+            rows: array::from_fn(
+                |row| -> [bool; SIDE]
+                    requires { IsSquare REACH SIDE × (row < SIDE) × T.IsAlwaysCallable test }
+                    ensures { RowSays REACH (T.post test) (pos row -ℤ pos REACH) result }
+                { Self::row(&test, row as i8 - REACH as i8) },
+            ),
+        }
     }
-}
 
-// The part of an offset that stands at k.
-fn part(k: usize, reach: u8) -> i8
-    requires small { reach ≤ 14 }
-    requires within { k ≤ 2 * reach }
-    ensures { result ≡ pos k -ℤ pos reach }
-{
-    k as i8 - reach as i8
-}
-
-// Whether an offset is in the set that the table says.
-pub(crate) fn says(cells: &[bool], reach: u8, x: i8, y: i8) -> bool
-    requires small { reach ≤ 14 }
-    requires whole { length cells.now ≡ side reach * side reach }
-    ensures { result ≡ set_of reach cells.now x y }
-{
-    if !is_within(reach, x) || !is_within(reach, y) {
-        return false;
+    // The row of a part down.
+    fn row<T: Fn(i8, i8) -> bool>(test: &T, dy: i8) -> [bool; SIDE]
+        requires square { IsSquare REACH SIDE }
+        requires callable { T.IsAlwaysCallable test.now }
+        ensures { RowSays REACH (T.post test.now) dy result }
+    {
+        array::from_fn(
+            |column| -> bool
+                requires { (REACH ≤ 14) × (column ≤ 2 * REACH) × T.IsAlwaysCallable test.now }
+                ensures { T.post test.entry.now (pos column -ℤ pos REACH) dy result }
+            { test(column as i8 - REACH as i8, dy) },
+        )
     }
-    let width = 2 * reach as usize + 1;
-    cells[index(y, reach) * width + index(x, reach)]
-}
 
-// Where a part of an offset stands.
-fn index(z: i8, reach: u8) -> usize
-    requires small { reach ≤ 14 }
-    requires inside { within reach z ≡ true }
-    ensures { result ≡ unsigned_abs (z +ℤ pos reach) }
-{
-    (z + reach as i8) as usize
-}
-
-// Whether z lies from -n to n.
-fn is_within(n: u8, z: i8) -> bool
-    ensures { result ≡ within n z }
-{
-    z.unsigned_abs() <= n
+    // Whether an offset is in the set.
+    pub(crate) fn has(&self, x: i8, y: i8) -> bool
+        ensures { result ≡ set_of REACH self.now.rows x y }
+    {
+        if !is_within(REACH, x) || !is_within(REACH, y) {
+            return false;
+        }
+        let (column, row) = (x + REACH as i8, y + REACH as i8);
+        self.rows[row as usize][column as usize]
+    }
 }

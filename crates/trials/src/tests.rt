@@ -5,6 +5,7 @@ use fleet::convoy::Convoy;
 use fleet::outlines::Outlines;
 use fleet::rectangles::Rectangles;
 use fleet::skirt::Skirt;
+use geometry::pair::Pair;
 use geometry::sharing::shares_cell;
 use grid::moves::Move;
 use grid::place::Place;
@@ -59,7 +60,8 @@ fn tables_answer_as_the_scan(rt: HostRuntime) -> Result<(), Fail> {
     let u = Place::from(0);
     for number in 0..=255 {
         let v = Place::from(number);
-        assert!(rt; differences.shares_cell(u, v) == shares_cell(&fleet, 0, u, 1, v));
+        let pair = Pair { i: 0, j: 1, u, v };
+        assert!(rt; differences.shares_cell(u, v) == shares_cell(&fleet, pair));
     }
     assert!(rt; differences.collides(u, Move::East, Place::from(3), Move::West));
     Ok(())

@@ -1,22 +1,13 @@
-use borrow.Author.Count.{below_more}
-use native.Mathlib.Omega.{arith}
-use mathlib.Core.Logic.{◌≢◌}
-use mathlib.Core.Path.{◌∙◌, ap}
-use Prim.Native.Nat.{◌<◌}
-use lib.ListN.{length, length-set}
-use lib.Seq.{get_or-set_same, get_or-set_other}
+use Rattle.std.proofs.Common.{◌≡◌, rules, false}
+use Rattle.grid.specs.Places.{position_at}
 use Rattle.geometry.specs.Stands.{may_stand}
+use Rattle.geometry.proofs.Filled.{filled}
 use Rattle.standing.proofs.standing_places.Goals as goal
 
-pub loop-number-preserved : goal.loop-number-preserved
-loop-number-preserved g c =
-    let i = c.loop-number.number in
-    let inside : i < length c.loop-number.stands = omega (arith, c.loop-number.invariant.0, c.loop-number-test.true) in (
-      simp length-set c.loop-number.invariant.0,
-      below_more _ _
-          (λ k h. let ne : k ≢ i = omega arith in rw get_or-set_other (c.loop-number.invariant.1 k h))
-          (rw get_or-set_same (c.may_stand.ensures.value ∙ ap (may_stand (g.F.Fleet.offsets c.args.fleet.now c.args.sled) c.args.floor.now) c.from.ensures.place)),
-    )
-
 pub returns : goal.returns
-returns g c = record { whole = c.loop-number.invariant.0; entries = λ n h. c.loop-number.invariant.1 n (omega (arith, c.loop-number-test.false)) }
+returns g c =
+    let offsets = g.F.Fleet.offsets c.args.fleet.now c.args.sled in
+    record {
+      whole = c.from_fn.ensures.items.long;
+      entries = λ n. filled (λ n b. b ≡ may_stand offsets c.args.floor.now (position_at n)) 256 (λ n b f below called. search rules) c.from_fn.ensures.items n false;
+    }

@@ -9,7 +9,7 @@ pub returns : goal.returns
 returns c first second made =
     let u = position_of c.args.u in
     let v = position_of c.args.v in
-    let fits_x : SFits w8 c.less.result = omega (arith, ints, c.less.ensures.near) in
-    let fits_y : SFits w8 c.less-2.result = omega (arith, ints, c.less-2.ensures.near) in
-    let told = rw (to_z-of_z w8 c.less.result fits_x, to_z-of_z w8 c.less-2.result fits_y, c.less.ensures.value, c.less-2.ensures.value) at c.has.ensures in
+    let x : SFits w8 c.less.result = omega (arith, ints) in
+    let y : SFits w8 c.less-2.result = omega (arith, ints) in
+    let told = rw (to_z-of_z w8 c.less.result x, to_z-of_z w8 c.less-2.result y, c.less.ensures, c.less-2.ensures) at c.has.ensures in
     told ∙ ap (λ (s : Offsets). s (pos u.column -ℤ pos v.column) (pos u.row -ℤ pos v.row)) made.set ∙ share_difference first second u v
