@@ -1,9 +1,10 @@
 -- Bytes written one after the other into a buffer.
-use Rattle.std.proofs.Common.{◌≡◌, ℕ, ◌+◌, ◌/◌, ◌%◌, ◌^◌, ◌<◌, ◌≤◌, List, [], ◌∷◌, ◌++◌, length, take, drop, set, Some, None, decimal, Option, sym, refl, ap, ◌∙◌, add_assoc, add-one, arith, length-drop}
+use Rattle.std.proofs.Common.{◌≡◌, ℕ, ◌+◌, ◌/◌, ◌%◌, ◌^◌, ◌<◌, ◌≤◌, List, [], ◌∷◌, ◌++◌, length, take, drop, set, Some, None, decimal, Option, sym, refl, ap, ◌∙◌, add_assoc, add-one, subst, arith, length-drop}
 use Prim.{absurd}
-use Rattle.std.proofs.lemmas.List.{append_assoc, length-append, length-take-le, take_at, drop_at, drop-drop, set_split, length_push}
+use Rattle.std.proofs.lemmas.List.{append_assoc, append-nil, length-append, length-take-le, take_at, drop_at, drop-drop, set_split, length_push}
 use Rattle.std.proofs.lemmas.Fmt.{decimal_step, length-decimal-le}
-use Rattle.text.specs.Texts.{written, Puts, TextOf}
+use Rattle.text.specs.declared.Text.{Text}
+use Rattle.text.specs.Texts.{written, PutsAt, Puts, TextOf, Appends}
 
 pub set_written : (xs : List ℕ) (at b : ℕ) → at < length xs → set xs at b ≡ written xs at (b ∷ [])
 set_written xs at b h = rw add-one (set_split xs at b h)
@@ -38,13 +39,9 @@ length_written xs at bytes room =
     omega
     (arith, length-append (take at xs) (bytes ++ drop (at + length bytes) xs), length-append bytes (drop (at + length bytes) xs), length-take-le at xs (omega arith), length-drop (at + length bytes) xs)
 
--- nothing is written yet
-pub text_none : (buffer : List ℕ) → TextOf buffer [] buffer (Some 0)
-text_none buffer = (omega arith, refl, refl)
-
 -- one piece more
-pub text-more :
-    (before bytes now : List ℕ) (at : Option ℕ) (more after : List ℕ) (end : Option ℕ) → TextOf before bytes now at → Puts now at more after end
+text-more :
+    (before bytes now : List ℕ) (at : Option ℕ) (more after : List ℕ) (end : Option ℕ) → TextOf before bytes now at → PutsAt now at more after end
     → TextOf before (bytes ++ more) after end
 text-more before bytes now (Some at) more after (Some end) text put =
     let whole = length-append bytes more in
@@ -58,3 +55,26 @@ text-more before bytes now (Some at) more after None text put =
     (omega (arith, length-append bytes more, kept, put.0, text.1), ap length put.1 ∙ kept)
 text-more before bytes now None more after (Some end) text put = absurd put
 text-more before bytes now None more after None text put = (omega (arith, length-append bytes more, text.0), ap length put ∙ text.1)
+
+-- what a single put appends
+pub appends-put : {now after : Text} {bytes : List ℕ} → Puts now bytes after → Appends now bytes after
+appends-put {now} {after} {bytes} p = record {
+  same_buffer = p.same_buffer;
+  behind = λ before front text. text-more before front now.out.now now.at bytes after.out.now after.at text p.put;
+}
+
+-- some bytes, and then others
+pub appends-both : {now mid after : Text} {first second : List ℕ} → Appends now first mid → Appends mid second after → Appends now (first ++ second) after
+appends-both {now} {mid} {after} {first} {second} one two = record {
+  same_buffer = two.same_buffer ∙ one.same_buffer;
+  behind = λ before front text. subst (λ l. TextOf before l after.out.now after.at) (append_assoc front first second) (two.behind before (front ++ first) (one.behind before front text));
+}
+
+-- no bytes at all
+pub appends-nothing : (t : Text) → Appends t [] t
+appends-nothing t = record { same_buffer = refl; behind = λ before front text. subst (λ l. TextOf before l t.out.now t.at) (sym (append-nil front)) text }
+
+-- all that is put behind an empty text
+pub whole-text : {now after : Text} {bytes : List ℕ} → now.at ≡ Some 0 → Appends now bytes after → TextOf now.out.now bytes after.out.now after.at
+whole-text {now} {after} {bytes} front all =
+    all.behind now.out.now [] (subst (λ at. TextOf now.out.now [] now.out.now at) (sym front) (omega arith, refl, refl))

@@ -1,31 +1,63 @@
-// Text in a caller's buffer: bytes, and numbers in decimal without leading zeros.
-// A call takes the position to write at and answers the position after what it wrote. Where the buffer has
-// no room for all of it, it writes nothing and answers no position; and from no position it writes nothing.
+// Text in a lent buffer: bytes, and numbers in decimal without leading zeros.
 #![tactic(auto)]
 
-ghost use Rattle.std.specs.Prelude.{◌≡◌, ◌+◌, ◌≤◌, length, decimal};
+ghost use Rattle.std.specs.Prelude.{◌≡◌, ◌+◌, ◌<◌, ◌≤◌, length, decimal, Some, IfSome, IfNone};
 ghost use Rattle.text.specs.Texts.{written, Puts};
 
-pub fn put_text(out: &mut [u8], at: Option<usize>, text: &[u8]) -> Option<usize>
-    ensures { Puts out.old at text.now out.new result }
-{
-    let at = at?;
-    if at > out.len() || text.len() > out.len() - at {
-        return None;
-    }
-    let end = at + text.len();
-    out[at..end].copy_from_slice(text);
-    Some(end)
+// A text that is written from the front of a lent buffer on: the buffer, and the position after what is written. A put for which there
+// is no room writes nothing and leaves no position; and from no position nothing more is written.
+#[derive(Drop)]
+pub struct Text<'a> {
+    out: &'a mut [u8],
+    at: Option<usize>,
 }
 
-pub fn put_number(out: &mut [u8], at: Option<usize>, n: usize) -> Option<usize>
-    ensures { Puts out.old at (decimal n) out.new result }
-{
-    let at = at?;
-    if at > out.len() || digit_count(n) > out.len() - at {
-        return None;
+impl<'a> Text<'a> {
+    // Nothing is written yet.
+    pub fn new(out: &'a mut [u8]) -> Text<'a>
+        ensures same_buffer { result.out.ghost_name ≡ out.entry.ghost_name }
+        ensures buffer { result.out.now ≡ out.old }
+        ensures front { result.at ≡ Some 0 }
+    {
+        Text { out, at: Some(0) }
     }
-    Some(put_digits(out, at, n))
+
+    // The length of the text, if there was room for all of it.
+    pub fn length(&self) -> Option<usize>
+        ensures { result ≡ self.now.at }
+    {
+        let Text { at, .. } = self;
+        *at
+    }
+
+    pub fn put(&mut self, bytes: &[u8])
+        ensures { Puts self.old bytes.now self.new }
+    {
+        self.at = self.room(bytes.len());
+        if let Some(at) = self.at {
+            let end = at + bytes.len();
+            self.out[at..end].copy_from_slice(bytes);
+            self.at = Some(end);
+        }
+    }
+
+    pub fn put_number(&mut self, n: usize)
+        ensures { Puts self.old (decimal n) self.new }
+    {
+        self.at = self.room(digit_count(n));
+        if let Some(at) = self.at {
+            self.at = Some(put_digits(self.out, at, n));
+        }
+    }
+
+    // The position to write at, if there is room for some bytes more.
+    fn room(&self, more: usize) -> Option<usize>
+        ensures some { IfSome result (λ at. (self.now.at ≡ Some at) × (at + more ≤ length self.now.out.now)) }
+        ensures none { IfNone result (IfSome self.now.at (λ at. length self.now.out.now < at + more)) }
+    {
+        let free = self.out.len().checked_sub(self.at?)?;
+        if more <= free { self.at } else { None }
+    }
 }
 
 // How many digits a number has.
