@@ -45,11 +45,11 @@ pub struct Fault {
     pub place: usize,
 }
 
-impl Layer {
-    pub fn number(self) -> u8
-        ensures { result ≡ layer_number self }
-    {
-        match self {
+impl From<Layer> for u8 {
+    ghost from_gives = { λ layer number. number ≡ layer_number layer };
+
+    fn from(layer: Layer) -> u8 {
+        match layer {
             Layer::Bytes => 1,
             Layer::Job => 2,
             Layer::Standing => 3,
@@ -59,13 +59,15 @@ impl Layer {
     }
 }
 
-impl Cause {
-    pub fn number(self) -> u8
-        ensures { result ≡ number_of self }
-    {
-        self as u8
-    }
+impl From<Cause> for u8 {
+    ghost from_gives = { λ cause number. number ≡ number_of cause };
 
+    fn from(cause: Cause) -> u8 {
+        cause as u8
+    }
+}
+
+impl Cause {
     pub fn layer(self) -> Layer
         ensures { result ≡ layer_of self }
     {

@@ -1,5 +1,6 @@
-// Refusals: their causes, and the line that tells one.
+// Refusals: their causes, the line that tells one, and calls that write lines.
 #![tactic(auto)]
 
 pub mod cause;
+pub mod lines;
 pub mod refusal;

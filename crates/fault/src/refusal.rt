@@ -1,35 +1,28 @@
 // The line that tells a refusal.
-ghost use Rattle.text.specs.Texts.{TextOf};
 ghost use Rattle.fault.specs.Lines.{Writes, refusal_line};
 
-use crate::cause::{Cause, Fault};
-use text::{put_number, put_text};
+use crate::cause::Fault;
+pub use crate::lines::LINES_BUFFER;
+use crate::lines::{Lines, write_lines};
+use text::Text;
 
-// The smallest buffer that takes all lines.
-pub const LINES_BUFFER: usize = 4096;
+impl Lines for Fault {
+    ghost lines = { refusal_line };
+
+    fn put(&self, text: &mut Text) {
+        text.put(b"refused ");
+        text.put_number(usize::from(u8::from(self.cause)));
+        text.put(b" ");
+        text.put_number(usize::from(u8::from(self.cause.layer())));
+        text.put(b" ");
+        text.put_number(self.place);
+        text.put(b"\n");
+    }
+}
 
 // Writes the line from the front of the buffer, and answers its length.
 pub fn write_refusal(fault: Fault, out: &mut [u8]) -> Result<usize, Fault>
     ensures { Writes (refusal_line fault) out.old out.new result }
 {
-    if out.len() < LINES_BUFFER {
-        return Err(Cause::BufferTooShort.at(0));
-    }
-    match put_refusal(fault, out) {
-        Some(length) => Ok(length),
-        None => unreachable(),
-    }
-}
-
-// The line, if there is room for all of it.
-fn put_refusal(fault: Fault, out: &mut [u8]) -> Option<usize>
-    ensures { TextOf out.old (refusal_line fault) out.new result }
-{
-    let at = put_text(out, Some(0), b"refused ");
-    let at = put_number(out, at, fault.cause.number() as usize);
-    let at = put_text(out, at, b" ");
-    let at = put_number(out, at, fault.cause.layer().number() as usize);
-    let at = put_text(out, at, b" ");
-    let at = put_number(out, at, fault.place);
-    put_text(out, at, b"\n")
+    write_lines(&fault, out)
 }

@@ -75,6 +75,8 @@ pub appends-nothing : (t : Text) → Appends t [] t
 appends-nothing t = record { same_buffer = refl; behind = λ before front text. subst (λ l. TextOf before l t.out.now t.at) (sym (append-nil front)) text }
 
 -- all that is put behind an empty text
-pub whole-text : {now after : Text} {bytes : List ℕ} → now.at ≡ Some 0 → Appends now bytes after → TextOf now.out.now bytes after.out.now after.at
-whole-text {now} {after} {bytes} front all =
-    all.behind now.out.now [] (subst (λ at. TextOf now.out.now [] now.out.now at) (sym front) (omega arith, refl, refl))
+pub whole-text : {buffer bytes : List ℕ} {now after : Text} {end : Option ℕ} → now.out.now ≡ buffer → now.at ≡ Some 0 → Appends now bytes after → end ≡ after.at
+    → TextOf buffer bytes after.out.now end
+whole-text {buffer} {bytes} {now} {after} {end} kept front all ends =
+    subst (λ at. TextOf buffer bytes after.out.now at) (sym ends)
+        (all.behind buffer [] (subst (λ at. TextOf buffer [] now.out.now at) (sym front) (omega arith, refl, kept)))

@@ -1,0 +1,14 @@
+use Rattle.std.proofs.Common.{arith, rules}
+use Rattle.text.proofs.Written.{whole-text}
+use Rattle.fault.proofs.lines.write_lines.Goals as goal
+
+pub unreachable-requires : goal.unreachable-requires
+unreachable-requires g c =
+    let whole = whole-text c.new-text.ensures.buffer c.new-text.ensures.front c.put.ensures.text c.in-None.ensures in
+    omega (arith, whole.0, c.put.ensures.short)
+
+pub returns : goal.returns
+returns g c =
+    let whole = whole-text c.new-text.ensures.buffer c.new-text.ensures.front c.put.ensures.text c.in-Some.ensures in
+    let same = c.put.ensures.text.same_buffer in
+    (c.if-out-lt-LINES_BUFFER.false, whole.1, omega (arith, whole.0, whole.1), search rules)
