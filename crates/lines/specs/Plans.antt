@@ -1,13 +1,8 @@
 -- The lines that tell how a search ended.
-use Rattle.std.specs.Prelude.{ℕ, ◌/◌, ◌%◌, List, ◌++◌, codes, decimal, Option}
+use Rattle.std.specs.Prelude.{ℕ, ◌/◌, ◌%◌, List, ◌++◌, codes, decimal}
 use Rattle.std.specs.List.{flat_map}
-use Rattle.text.specs.Texts.{TextOf}
 use Rattle.lines.specs.declared.outcome.Outcome.{Outcome}
 use Rattle.lines.specs.declared.outcome.Outcome.TheVariants.{Solved, NoPlan, Full}
-
--- whatever text the buffer holds from its front up to the position, it then holds that text and this one behind it
-abbrev pub Appends : (now : List ℕ) (at : Option ℕ) (text after : List ℕ) (end : Option ℕ) → Type 0
-Appends now at text after end = (before bytes : List ℕ) → TextOf before bytes now at → TextOf before (bytes ++ text) after end
 
 -- some text, a number of turns, and the end of the line
 unfoldable pub ending_of : List ℕ → (turns : ℕ) → List ℕ
@@ -28,7 +23,7 @@ unfoldable pub place_text : (place : ℕ) → List ℕ
 place_text place = codes " " ++ decimal (place % 16) ++ codes "," ++ decimal (place / 16)
 
 -- places one after the other
-unfoldable pub places_text : List ℕ → List ℕ
+abbrev pub places_text : List ℕ → List ℕ
 places_text places = flat_map place_text places
 
 -- the number of a sled, its place at every instant, and the end of the line

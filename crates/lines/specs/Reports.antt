@@ -1,5 +1,5 @@
 -- All lines of a report.
-use Rattle.std.specs.Prelude.{ℕ, zero, suc, List, [], ◌++◌, take, slice_index_or}
+use Rattle.std.specs.Prelude.{ℕ, zero, suc, List, [], ◌++◌, length, take, slice_index_or}
 use Rattle.lines.specs.declared.outcome.Outcome.{Outcome}
 use Rattle.lines.specs.declared.outcome.Outcome.TheVariants.{Solved, NoPlan, Full}
 use Rattle.lines.specs.declared.report.Report.{Report}
@@ -18,4 +18,4 @@ lines_after (Full bound) plan = []
 
 -- the outcome, and after solved the plan
 unfoldable pub report_lines : Report → List ℕ
-report_lines r = outcome_line r.outcome r.turns ++ lines_after r.outcome (plan_lines r.routes r.last r.sleds)
+report_lines r = outcome_line r.outcome r.turns ++ lines_after r.outcome (plan_lines r.routes.now r.last (length r.routes.now))

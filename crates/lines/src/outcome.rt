@@ -1,8 +1,9 @@
 // The first line: the outcome of a search and the turns that it took.
-ghost use Rattle.std.specs.Prelude.{◌≤◌, length};
-ghost use Rattle.lines.specs.Plans.{Appends, outcome_line, words_of, ending_of};
+ghost use Rattle.std.specs.Prelude.{◌+◌, ◌≤◌, length};
+ghost use Rattle.text.specs.Texts.{Appends};
+ghost use Rattle.lines.specs.Plans.{outcome_line, words_of, ending_of};
 
-use text::{put_number, put_text};
+use text::Text;
 
 #[derive(Clone, Copy)]
 pub enum Outcome {
@@ -12,42 +13,34 @@ pub enum Outcome {
 }
 
 // Appends the line; numbers are decimal without leading zeros.
-pub(crate) fn put_outcome(
-    out: &mut [u8],
-    at: Option<usize>,
-    outcome: Outcome,
-    turns: usize,
-) -> Option<usize>
-    ensures text { Appends out.old at (outcome_line outcome turns) out.new result }
+#[tactic(auto, unfolding(crate::specs::Plans::outcome_line))]
+pub(crate) fn put_outcome(text: &mut Text, outcome: Outcome, turns: usize)
+    ensures text { Appends text.old (outcome_line outcome turns) text.new }
     ensures short { length (outcome_line outcome turns) ≤ 49 }
 {
     match outcome {
-        Outcome::Solved { sum } => put_words(out, at, b"solved ", sum, turns),
-        Outcome::NoPlan => put_ending(out, at, b"none ", turns),
-        Outcome::Full { bound } => put_words(out, at, b"full ", bound, turns),
+        Outcome::Solved { sum } => put_words(text, b"solved ", sum, turns),
+        Outcome::NoPlan => put_ending(text, b"none ", turns),
+        Outcome::Full { bound } => put_words(text, b"full ", bound, turns),
     }
 }
 
 // A word, a number, and the turns.
-fn put_words(
-    out: &mut [u8],
-    at: Option<usize>,
-    word: &[u8],
-    number: usize,
-    turns: usize,
-) -> Option<usize>
-    ensures { Appends out.old at (words_of word.now number turns) out.new result }
+fn put_words(text: &mut Text, word: &[u8], number: usize, turns: usize)
+    ensures text { Appends text.old (words_of word.now number turns) text.new }
+    ensures short { length (words_of word.now number turns) ≤ length word.now + 42 }
 {
-    let at = put_text(out, at, word);
-    let at = put_number(out, at, number);
-    put_ending(out, at, b" ", turns)
+    text.put(word);
+    text.put_number(number);
+    put_ending(text, b" ", turns);
 }
 
-// Some text, the turns, and the end of the line.
-fn put_ending(out: &mut [u8], at: Option<usize>, text: &[u8], turns: usize) -> Option<usize>
-    ensures { Appends out.old at (ending_of text.now turns) out.new result }
+// Some words, the turns, and the end of the line.
+fn put_ending(text: &mut Text, words: &[u8], turns: usize)
+    ensures text { Appends text.old (ending_of words.now turns) text.new }
+    ensures short { length (ending_of words.now turns) ≤ length words.now + 21 }
 {
-    let at = put_text(out, at, text);
-    let at = put_number(out, at, turns);
-    put_text(out, at, b"\n")
+    text.put(words);
+    text.put_number(turns);
+    text.put(b"\n");
 }

@@ -1,5 +1,5 @@
 // What a search tells when it has ended.
-ghost use Rattle.std.specs.Prelude.{◌≡◌, ◌≤◌, length};
+ghost use Rattle.std.specs.Prelude.{◌≤◌, length};
 
 use crate::outcome::Outcome;
 
@@ -13,13 +13,11 @@ pub const MAX_INSTANTS: usize = 64;
 
 // The outcome, the turns made, and the route of each sled by place numbers at the instants from 0 to the last one.
 #[derive(Clone, Copy)]
-pub struct Report {
+pub struct Report<'a> {
     pub outcome: Outcome,
     pub turns: usize,
-    pub routes: [[u8; MAX_INSTANTS]; MAX_SLEDS],
-    pub sleds: u8,
+    pub routes: &'a [[u8; MAX_INSTANTS]],
     pub last: u8,
-    ghost few: { sleds ≤ 6 },
+    ghost few: { length routes.now ≤ 6 },
     ghost short: { last ≤ 63 },
-    ghost whole: { length routes ≡ 6 },
 }

@@ -1,49 +1,38 @@
 // The line of a sled: its number, and its place at every instant as column,row.
-ghost use Rattle.std.specs.Prelude.{suc, ◌+◌, ◌*◌, ◌≤◌, length, take};
-ghost use Rattle.lines.specs.Plans.{Appends, place_text, places_text, route_line};
+ghost use Rattle.std.specs.Prelude.{◌+◌, ◌*◌, ◌≤◌, length};
+ghost use Rattle.text.specs.Texts.{Appends};
+ghost use Rattle.lines.specs.Plans.{place_text, places_text, route_line};
 
 use grid::place::Place;
-use text::{put_number, put_text};
+use text::Text;
 
-// Appends the line of a sled whose route has these places, by their numbers, at the instants from 0 on. Entries past the last
-// instant do not count.
-pub(crate) fn put_route(
-    out: &mut [u8],
-    at: Option<usize>,
-    sled: usize,
-    route: &[u8],
-    last: usize,
-) -> Option<usize>
-    ensures text { Appends out.old at (route_line sled (take (suc last) route.now)) out.new result }
-    ensures short { length (route_line sled (take (suc last) route.now)) ≤ 6 * suc last + 21 }
+// Appends the line of a sled whose route has these places, by their numbers, at the instants from 0 on.
+pub(crate) fn put_route(text: &mut Text, sled: usize, route: &[u8])
+    ensures text { Appends text.old (route_line sled route.now) text.new }
+    ensures short { length (route_line sled route.now) ≤ 6 * length route.now + 21 }
 {
-    let at = put_number(out, at, sled);
-    let at = put_places(out, at, route, last);
-    put_text(out, at, b"\n")
+    text.put_number(sled);
+    put_places(text, route);
+    text.put(b"\n");
 }
 
-fn put_places(out: &mut [u8], at: Option<usize>, route: &[u8], last: usize) -> Option<usize>
-    ensures text { Appends out.old at (places_text (take (suc last) route.now)) out.new result }
-    ensures short { length (places_text (take (suc last) route.now)) ≤ 6 * suc last }
+fn put_places(text: &mut Text, route: &[u8])
+    ensures text { Appends text.old (places_text route.now) text.new }
+    ensures short { length (places_text route.now) ≤ 6 * length route.now }
 {
-    let mut end = at;
-    for (instant, number) in route.iter().enumerate() {
-        if instant > last {
-            break;
-        }
-        end = put_place(out, end, *number);
+    for number in route {
+        put_place(text, *number);
     }
-    end
 }
 
 // A blank, the column, a comma and the row.
-fn put_place(out: &mut [u8], at: Option<usize>, number: u8) -> Option<usize>
-    ensures text { Appends out.old at (place_text number) out.new result }
+fn put_place(text: &mut Text, number: u8)
+    ensures text { Appends text.old (place_text number) text.new }
     ensures short { length (place_text number) ≤ 6 }
 {
     let place = Place::from_number(number);
-    let at = put_text(out, at, b" ");
-    let at = put_number(out, at, place.column as usize);
-    let at = put_text(out, at, b",");
-    put_number(out, at, place.row as usize)
+    text.put(b" ");
+    text.put_number(usize::from(place.column));
+    text.put(b",");
+    text.put_number(usize::from(place.row));
 }

@@ -1,19 +1,16 @@
-use Rattle.std.proofs.Common.{◌++◌, codes, decimal, subst, rules}
-use Rattle.lines.specs.Plans.{Appends, place_text}
-use Rattle.lines.proofs.Appending.{put_one, put_both, place_short}
+use Rattle.std.proofs.Common.{◌≡◌, ◌++◌, codes, decimal, subst, rules}
+use Rattle.text.specs.Texts.{Appends}
+use Rattle.text.proofs.Written.{appends-put, appends-both}
+use Rattle.lines.specs.Plans.{place_text}
+use Rattle.lines.proofs.Lengths.{place_short}
 use Rattle.lines.proofs.route.put_place.Goals as goal
 
 pub returns : goal.returns
 unfolding place_text
 returns c =
-    let now = c.args.out.now in
-    let at = c.args.at in
-    let f0 = put_one now at (codes " ") c.put_text-at.new.out c.put_text-at.result c.put_text-at.ensures in
-    let f1 = put_one c.put_text-at.new.out c.put_text-at.result (decimal c.from_number-place.result.column) c.put_number-at.new.out c.put_number-at.result c.put_number-at.ensures in
-    let g1 = put_both now at (codes " ") c.put_text-at.new.out c.put_text-at.result (decimal c.from_number-place.result.column) c.put_number-at.new.out c.put_number-at.result f0 f1 in
-    let f2 = put_one c.put_number-at.new.out c.put_number-at.result (codes ",") c.put_text-at-2.new.out c.put_text-at-2.result c.put_text-at-2.ensures in
-    let g2 = put_both now at (codes " " ++ decimal c.from_number-place.result.column) c.put_number-at.new.out c.put_number-at.result (codes ",") c.put_text-at-2.new.out c.put_text-at-2.result g1 f2 in
-    let f3 = put_one c.put_text-at-2.new.out c.put_text-at-2.result (decimal c.from_number-place.result.row) c.put_number.new.out c.put_number.result c.put_number.ensures in
-    let g3 = put_both now at (codes " " ++ decimal c.from_number-place.result.column ++ codes ",") c.put_text-at-2.new.out c.put_text-at-2.result (decimal c.from_number-place.result.row) c.put_number.new.out c.put_number.result g2 f3 in
-    let is = c.from_number-place.ensures.place in
-    record { text = subst (λ l. Appends now at l c.put_number.new.out c.put_number.result) (λ i. codes " " ++ decimal (is i).column ++ codes "," ++ decimal (is i).row) g3; short = place_short c.args.number (search rules) }
+    let is : codes " " ++ decimal c.from.result ++ codes "," ++ decimal c.from-2.result ≡ place_text c.args.number = search rules in
+    let column = appends-both (appends-put c.put.ensures) (appends-put c.put_number.ensures) in
+    record {
+      text = subst (λ l. Appends c.args.text.now l c.put_number-2.new.self) is (appends-both (appends-both column (appends-put c.put-2.ensures)) (appends-put c.put_number-2.ensures));
+      short = place_short c.args.number (search rules);
+    }

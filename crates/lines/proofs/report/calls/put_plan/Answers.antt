@@ -1,36 +1,24 @@
-use Rattle.std.proofs.Common.{◌≡◌, suc, [], length, get_or, take, sym, ap, subst, arith}
-use Rattle.std.proofs.lemmas.List.{length-append}
-use Rattle.lines.specs.Plans.{Appends, route_line}
+use Rattle.std.proofs.Common.{◌+◌, [], length, get_or, take, sym, ap, subst, arith}
+use Rattle.std.proofs.lemmas.List.{length-append, length-take}
+use Rattle.text.specs.Texts.{Appends}
+use Rattle.text.proofs.Written.{appends-both, appends-nothing}
+use Rattle.lines.specs.Plans.{route_line}
 use Rattle.lines.specs.Reports.{plan_lines}
-use Rattle.lines.proofs.Appending.{put_both, put_nothing}
-use Rattle.lines.proofs.Reporting.{plan_none, plan_more}
+use Rattle.lines.proofs.Lengths.{plan_more}
 use Rattle.lines.proofs.report.calls.put_plan.Goals as goal
 
 pub loop-sled-init : goal.loop-sled-init
-loop-sled-init c =
-    let r = c.args.report.now in
-    let none = plan_none r.routes r.last in (
-      omega (arith, ap length none),
-      subst (λ l. Appends c.args.out.now c.args.at l c.args.out.now c.args.at) (sym none) (put_nothing c.args.out.now c.args.at),
-    )
+unfolding plan_lines
+loop-sled-init c = record { text = appends-nothing c.args.text.now; short = omega arith }
 
 pub loop-sled-preserved : goal.loop-sled-preserved
 loop-sled-preserved c =
     let r = c.args.report.now in
     let n = c.loop-sled.sled in
-    let put = c.put_route-end in
-    let more = plan_more r.routes r.last n in
-    let line = route_line n (take (suc r.last) (get_or r.routes n [])) in (
-      omega (arith, ap length more, length-append (plan_lines r.routes r.last n) line, put.ensures.short, c.loop-sled.invariant.0, r.short),
-      subst (λ l. Appends c.args.out.now c.args.at l put.new.out put.result) (sym more)
-          (put_both c.args.out.now c.args.at (plan_lines r.routes r.last n) c.loop-sled.out c.loop-sled.end line put.new.out put.result c.loop-sled.invariant.1 put.ensures.text),
-    )
-
-pub returns : goal.returns
-returns c =
-    let r = c.args.report.now in
-    let here : c.loop-sled.sled ≡ r.sleds = omega (arith, c.loop-sled-test.false, c.loop-sled.auto) in
+    let shown = take (c.from-last.result + 1) (get_or r.routes.now n []) in
+    let more = plan_more r.routes.now r.last n (c.from-last.result + 1) (omega (arith, c.from-last.ensures)) in
+    let here = c.put_route.ensures in
     record {
-      text = subst (λ n. Appends c.args.out.now c.args.at (plan_lines r.routes r.last n) c.loop-sled.out c.loop-sled.end) here c.loop-sled.invariant.1;
-      short = omega (arith, c.loop-sled.invariant.0, here, r.few, ap (λ n. length (plan_lines r.routes r.last n)) here);
+      text = subst (λ l. Appends c.args.text.now l c.put_route.new.text) (sym more) (appends-both c.loop-sled.invariant.text here.text);
+      short = omega (arith, ap length more, length-append (plan_lines r.routes.now r.last n) (route_line n shown), length-take (c.from-last.result + 1) (get_or r.routes.now n []), here.short, c.from-last.ensures, r.short);
     }
