@@ -8,11 +8,8 @@ loop-i-init g c = none_made g.R.SplitRule.sets c.args.search.now c.args.calls.no
 pub loop-i-preserved : goal.loop-i-preserved
 loop-i-preserved g c =
     one_more g.R.SplitRule.sets c.args.search.now c.args.calls.now c.args.self.now c.args.answers.now c.loop-i.i c.loop-i.self c.loop-i.answers c.loop-i.hand
-    c.loop-i.invariant c.answer-step.new.self c.answer-step.result.answer c.answer-step.result.hand c.answer-step.ensures c.loop-i-test.true
+    c.loop-i.invariant c.answer.new.self c.answer.result.answer c.answer.result.hand c.answer.ensures c.loop-i-test.true
     (omega (arith, c.loop-i-test.true, c.requires, c.loop-i.auto.answers))
-
-pub answer-step-requires : goal.answer-step-requires
-answer-step-requires g c = c.loop-i.invariant.in_hand
 
 pub returns : goal.returns
 returns g c =
