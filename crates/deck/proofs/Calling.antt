@@ -23,13 +23,13 @@ hand_more : (hand : Option Slip) (rs : List Told) (a : Told) → hand_left hand 
 hand_more hand [] a = refl
 hand_more hand (b ∷ rs) a = hand_more (hand_after hand b) rs a
 
-module _ {F R : Type 0} (sets : R → Sets) (s : Search F R) (calls : List Call) (d : Deck) (before : List Told) where
+module _ {F R : Type 0} {sets : R → Sets} {s : Search F R} {calls : List Call} {d : Deck} {before : List Told} where
   pub none_made : MadeSoFar sets s calls 0 d d before before None
   none_made = record { answers = record { idle = λ e. refl; opened = λ K limit n o. refl }; history = refl; hand_is = refl; in_hand = tt; beyond = refl }
 
-  module _ (i : ℕ) (m : Deck) (rs : List Told) (hand : Option Slip) (h : MadeSoFar sets s calls i d m before rs hand) where
+  module _ {i : ℕ} {m : Deck} {rs : List Told} {hand : Option Slip} (h : MadeSoFar sets s calls i d m before rs hand) where
     -- one call more
-    module _ (e : Deck) (a : Told) (hand' : Option Slip) (x : Answers sets s m e (get_or calls i Release) hand a hand') (l : i < length calls) (room : i < length rs) where
+    module _ {e : Deck} {a : Told} {hand' : Option Slip} (x : Answers sets s m e (get_or calls i Release) hand a hand') (l : i < length calls) (room : i < length rs) where
       told_more : (last : Result ℕ Fault) → take i rs ++ answers_to m last hand (drop i calls) ≡ answers_to d last None calls → a ≡ answer_to m last hand (get_or calls i Release) →
           take (i + 1) (set rs i a) ++ answers_to e last hand' (drop (i + 1) calls) ≡ answers_to d last None calls
       told_more last p q =
@@ -69,12 +69,12 @@ module _ {F R : Type 0} (sets : R → Sets) (s : Search F R) (calls : List Call)
           }
 
   -- a slip that is left is recalled
-  module _ (m e : Deck) (after : List Told) (hand : Option Slip) (h : Makes sets s calls d m before after hand) where
-    closed : (g : Option Slip) → InHand m g → Closes m e g → History d (take (length calls) after ++ closing g) e
-    closed None i c = subst (λ (xs : List Told). History d xs e) (sym (append-nil (take (length calls) after))) (subst (History d (take (length calls) after)) (sym c) h.history)
-    closed (Some slip) i c = history_more d m e (take (length calls) after) (Some (Ok (Recalled slip.numbers))) h.history i c
+  module _ {m : Deck} {after : List Told} {hand : Option Slip} (h : Makes sets s calls d m before after hand) where
+    closed : (e : Deck) (g : Option Slip) → InHand m g → Closes m e g → History d (take (length calls) after ++ closing g) e
+    closed e None i c = subst (λ (xs : List Told). History d xs e) (sym (append-nil (take (length calls) after))) (subst (History d (take (length calls) after)) (sym c) h.history)
+    closed e (Some slip) i c = history_more d m e (take (length calls) after) (Some (Ok (Recalled slip.numbers))) h.history i c
 
-    pub ran : Closes m e hand → Ran sets s calls d e before after
-    ran c =
-        let all = subst (λ (g : Option Slip). History d (take (length calls) after ++ closing g) e) h.hand_is (closed hand h.in_hand c) in
+    pub ran : {e : Deck} → Closes m e hand → Ran sets s calls d e before after
+    ran {e} c =
+        let all = subst (λ (g : Option Slip). History d (take (length calls) after ++ closing g) e) h.hand_is (closed e hand h.in_hand c) in
         record { answers = h.answers; history = all; law = histories_are_lawful d e _ all; beyond = h.beyond }

@@ -1,5 +1,5 @@
 -- The law of runs, over lists of calls on one deck.
-use Rattle.std.specs.Prelude.{◌≡◌, ℕ, ◌+◌, ◌<◌, ◌≤◌, true, cond, ◌⊎◌, List, [], ◌∷◌, ◌++◌, length, take, Some, None, Ok, Err, Option, Result}
+use Rattle.std.specs.Prelude.{◌≡◌, ℕ, ◌+◌, ◌<◌, ◌≤◌, true, cond, ◌⊎◌, List, [], ◌∷◌, ◌++◌, length, take, Some, Ok, Option, Result}
 use Rattle.std.specs.List.{range_with_len}
 use Rattle.tree.specs.Lists.{Nth}
 use Rattle.fault.specs.declared.cause.Fault.{Fault}

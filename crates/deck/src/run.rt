@@ -68,12 +68,9 @@ impl Deck {
         requires { fits slip.numbers self.old ≡ true }
         ensures { self.new ≡ freed self.old }
     {
-        match self.recall(slip) {
-            Ok(()) => {}
-            Err(Returned { fault: _, slip }) => {
-                slip.spend();
-                unreachable()
-            }
+        if let Err(Returned { slip, .. }) = self.recall(slip) {
+            slip.spend();
+            unreachable()
         }
     }
 }
