@@ -71,6 +71,7 @@ impl Deck {
         }
     }
 
+    // That the slip fits is asked here: a struct with the lent deck, the slip and this fact in it could not be taken apart.
     fn answer_slip<F: Fleet, R: SplitRule>(
         &mut self,
         search: &Search<F, R>,
