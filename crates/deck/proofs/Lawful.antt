@@ -1,22 +1,19 @@
 -- Histories keep the law of runs.
-use Rattle.std.proofs.Common.{◌≡◌, ℕ, zero, suc, ◌+◌, ◌<◌, ◌≤◌, Bool, true, false, cond, not, ◌&&◌, eqb, ltb, List, [], ◌∷◌, ◌++◌, length, take, sym, refl, ap, ◌∙◌, subst, ap₂, inl, inr, true≢false, arith}
+use Rattle.std.proofs.Common.{◌≡◌, ℕ, zero, suc, ◌+◌, ◌<◌, ◌≤◌, Bool, true, false, cond, not, Some, None, Ok, Err, ◌&&◌, eqb, ltb, List, [], ◌∷◌, ◌++◌, length, take, sym, refl, ap, ◌∙◌, subst, ap₂, inl, inr, true≢false, arith}
 use Rattle.std.specs.List.{range_with_len}
 use Rattle.std.proofs.lemmas.List.{append-nil}
 use Rattle.std.proofs.lemmas.Bool.{and_parts, not-true, eqb-true}
 use Rattle.deck.specs.declared.state.Deck.{Deck}
-use Rattle.deck.specs.declared.slip.Slip.{Slip}
 use Rattle.deck.specs.declared.slip.SlipNumbers.{SlipNumbers}
-use Rattle.deck.specs.declared.call.Answer.{Answer}
-use Rattle.deck.specs.declared.call.Answer.TheVariants.{Released, Moved, Finished, Recalled, Refused, NoSlip}
-use Rattle.deck.specs.Slips.{numbers_of, slip_with}
+use Rattle.deck.specs.declared.call.Done.TheVariants.{Released, Moved, Finished, Recalled}
 use Rattle.deck.specs.Decks.{ready, gone_out, slip_of, freed, fits}
-use Rattle.deck.specs.Law.{Grants, deck_after, History, given, taken, Gives, Takes, out_on, HistoriesAreLawful}
+use Rattle.deck.specs.Law.{Told, Grants, deck_after, History, given, taken, Gives, Takes, out_on, HistoriesAreLawful}
 
 -- a deck that is ready is free, and a slip that fits has the run that the deck is out on
 ready_free : (d : Deck) → ready d ≡ true → d.is_out ≡ false
 ready_free d e = not-true d.is_out (and_parts (not d.is_out) (ltb d.runs 65535) e).0
 
-fits_out : (s : Slip) (d : Deck) → fits s d ≡ true → (d.is_out ≡ true) × (s.run ≡ d.runs)
+fits_out : (s : SlipNumbers) (d : Deck) → fits s d ≡ true → (d.is_out ≡ true) × (s.run ≡ d.runs)
 fits_out s d e =
     let (out, both) = and_parts d.is_out (eqb s.name d.name && eqb s.run d.runs) e in
     (out, eqb-true s.run d.runs (and_parts (eqb s.name d.name) (eqb s.run d.runs) both).1)
@@ -35,18 +32,18 @@ out_few d = few d.is_out
     few false = omega arith
 
 -- of a deck that was handed a slip and took it
-module _ (d : Deck) (x : SlipNumbers) (fit : fits (slip_with x) d ≡ true) where
+module _ (d : Deck) (x : SlipNumbers) (fit : fits x d ≡ true) where
   was_out : d.is_out ≡ true
-  was_out = (fits_out (slip_with x) d fit).0
+  was_out = (fits_out x d fit).0
 
   run_is : x.run ≡ d.runs
-  run_is = (fits_out (slip_with x) d fit).1
+  run_is = (fits_out x d fit).1
 
   took : (gs ts : List ℕ) → gs ≡ ts → out_on d ++ gs ≡ x.run ∷ ts
   took gs ts e = ap {B = List ℕ} (λ l. l ++ gs) (out_one d was_out) ∙ ap₂ {C = List ℕ} (λ (r : ℕ) (l : List ℕ). r ∷ l) (sym run_is) e
 
 -- of a deck that gave a slip
-module _ (d : Deck) (x : SlipNumbers) (free : ready d ≡ true) (new : x ≡ numbers_of (slip_of d x.last)) where
+module _ (d : Deck) (x : SlipNumbers) (free : ready d ≡ true) (new : x ≡ (slip_of d x.last).numbers) where
   next_run : x.run ≡ d.runs + 1
   next_run = ap (λ (y : SlipNumbers). y.run) new
 
@@ -54,66 +51,66 @@ module _ (d : Deck) (x : SlipNumbers) (free : ready d ≡ true) (new : x ≡ num
   gave gs = ap {B = List ℕ} (λ l. l ++ (x.run ∷ gs)) (out_none d (ready_free d free)) ∙ ap {B = List ℕ} (λ r. r ∷ gs) next_run
 
 -- what was out or given was taken, or is out
-balance : (d e : Deck) (rs : List Answer) → History d rs e → out_on d ++ given rs ≡ taken rs ++ out_on e
+balance : (d e : Deck) (rs : List Told) → History d rs e → out_on d ++ given rs ≡ taken rs ++ out_on e
 balance d e [] h = append-nil (out_on d) ∙ ap out_on (sym h)
-balance d e (Released x ∷ rs) h = gave d x h.0.0 h.0.1 (given rs) ∙ balance (gone_out d) e rs h.1
-balance d e (Moved x ∷ rs) h = balance d e rs h.1
-balance d e (Finished x ∷ rs) h = took d x h.0.0 (given rs) (taken rs ++ out_on e) (balance (freed d) e rs h.1)
-balance d e (Recalled x ∷ rs) h = took d x h.0 (given rs) (taken rs ++ out_on e) (balance (freed d) e rs h.1)
-balance d e (Refused f ∷ rs) h = balance d e rs h.1
-balance d e (NoSlip ∷ rs) h = balance d e rs h.1
+balance d e (Some (Ok (Released x)) ∷ rs) h = gave d x h.0.0 h.0.1 (given rs) ∙ balance (gone_out d) e rs h.1
+balance d e (Some (Ok (Moved x)) ∷ rs) h = balance d e rs h.1
+balance d e (Some (Ok (Finished x)) ∷ rs) h = took d x h.0.0 (given rs) (taken rs ++ out_on e) (balance (freed d) e rs h.1)
+balance d e (Some (Ok (Recalled x)) ∷ rs) h = took d x h.0 (given rs) (taken rs ++ out_on e) (balance (freed d) e rs h.1)
+balance d e (Some (Err f) ∷ rs) h = balance d e rs h.1
+balance d e (None ∷ rs) h = balance d e rs h.1
 
-gapless : (d e : Deck) (rs : List Answer) → History d rs e → given rs ≡ range_with_len (d.runs + 1) (length (given rs))
+gapless : (d e : Deck) (rs : List Told) → History d rs e → given rs ≡ range_with_len (d.runs + 1) (length (given rs))
 gapless d e [] h = refl
-gapless d e (Released x ∷ rs) h = ap₂ {C = List ℕ} (λ (r : ℕ) (l : List ℕ). r ∷ l) (next_run d x h.0.0 h.0.1) (gapless (gone_out d) e rs h.1)
-gapless d e (Moved x ∷ rs) h = gapless d e rs h.1
-gapless d e (Finished x ∷ rs) h = gapless (freed d) e rs h.1
-gapless d e (Recalled x ∷ rs) h = gapless (freed d) e rs h.1
-gapless d e (Refused f ∷ rs) h = gapless d e rs h.1
-gapless d e (NoSlip ∷ rs) h = gapless d e rs h.1
+gapless d e (Some (Ok (Released x)) ∷ rs) h = ap₂ {C = List ℕ} (λ (r : ℕ) (l : List ℕ). r ∷ l) (next_run d x h.0.0 h.0.1) (gapless (gone_out d) e rs h.1)
+gapless d e (Some (Ok (Moved x)) ∷ rs) h = gapless d e rs h.1
+gapless d e (Some (Ok (Finished x)) ∷ rs) h = gapless (freed d) e rs h.1
+gapless d e (Some (Ok (Recalled x)) ∷ rs) h = gapless (freed d) e rs h.1
+gapless d e (Some (Err f) ∷ rs) h = gapless d e rs h.1
+gapless d e (None ∷ rs) h = gapless d e rs h.1
 
 -- the first answers have a history of their own
-first : (k : ℕ) (d e : Deck) (rs : List Answer) → History d rs e → (m : Deck) × History d (take k rs) m
+first : (k : ℕ) (d e : Deck) (rs : List Told) → History d rs e → (m : Deck) × History d (take k rs) m
 first zero d e rs h = (d, refl)
 first (suc k) d e [] h = (d, refl)
 first (suc k) d e (a ∷ rs) h = let (m, g) = first k (deck_after d a) e rs h.1 in (m, (h.0, g))
 
 -- the deck took a slip of run r at once
-taken_now : (d : Deck) (a : Answer) (r : ℕ) → Grants d a → Takes (a ∷ []) 0 r → (d.is_out ≡ true) × (d.runs ≡ r) × (deck_after d a ≡ freed d)
+taken_now : (d : Deck) (a : Told) (r : ℕ) → Grants d a → Takes (a ∷ []) 0 r → (d.is_out ≡ true) × (d.runs ≡ r) × (deck_after d a ≡ freed d)
 taken_now d a r h (x, inl n, q) =
-    let fit = (subst (λ (b : Answer). Grants d b) n h).0 in
+    let fit = (subst (λ (b : Told). Grants d b) n h).0 in
     (was_out d x fit, sym (run_is d x fit) ∙ q, ap (deck_after d) n)
 taken_now d a r h (x, inr n, q) =
-    let fit = subst (λ (b : Answer). Grants d b) n h in
+    let fit = subst (λ (b : Told). Grants d b) n h in
     (was_out d x fit, sym (run_is d x fit) ∙ q, ap (deck_after d) n)
 
 -- runs taken later are those of the deck and above, and above if it is free; runs given later are above
-higher : (d e : Deck) (rs : List Answer) → History d rs e → (l r : ℕ) → Takes rs l r → (d.runs ≤ r) × (d.is_out ≡ false → d.runs < r)
+higher : (d e : Deck) (rs : List Told) → History d rs e → (l r : ℕ) → Takes rs l r → (d.runs ≤ r) × (d.is_out ≡ false → d.runs < r)
 higher d e [] h l r (x, inl n, q) = absurd n
 higher d e [] h l r (x, inr n, q) = absurd n
 higher d e (a ∷ rs) h zero r t =
     let (out, run, _) = taken_now d a r h.0 t in
     (omega arith, λ f. absurd (true≢false (sym out ∙ f)))
-higher d e (Released x ∷ rs) h (suc l) r t = let (low, _) = higher (gone_out d) e rs h.1 l r t in (omega arith, λ f. omega arith)
-higher d e (Moved x ∷ rs) h (suc l) r t = higher d e rs h.1 l r t
-higher d e (Finished x ∷ rs) h (suc l) r t = let (low, above) = higher (freed d) e rs h.1 l r t in (low, λ f. above refl)
-higher d e (Recalled x ∷ rs) h (suc l) r t = let (low, above) = higher (freed d) e rs h.1 l r t in (low, λ f. above refl)
-higher d e (Refused f ∷ rs) h (suc l) r t = higher d e rs h.1 l r t
-higher d e (NoSlip ∷ rs) h (suc l) r t = higher d e rs h.1 l r t
+higher d e (Some (Ok (Released x)) ∷ rs) h (suc l) r t = let (low, _) = higher (gone_out d) e rs h.1 l r t in (omega arith, λ f. omega arith)
+higher d e (Some (Ok (Moved x)) ∷ rs) h (suc l) r t = higher d e rs h.1 l r t
+higher d e (Some (Ok (Finished x)) ∷ rs) h (suc l) r t = let (low, above) = higher (freed d) e rs h.1 l r t in (low, λ f. above refl)
+higher d e (Some (Ok (Recalled x)) ∷ rs) h (suc l) r t = let (low, above) = higher (freed d) e rs h.1 l r t in (low, λ f. above refl)
+higher d e (Some (Err f) ∷ rs) h (suc l) r t = higher d e rs h.1 l r t
+higher d e (None ∷ rs) h (suc l) r t = higher d e rs h.1 l r t
 
-given_above : (d e : Deck) (rs : List Answer) → History d rs e → (l r : ℕ) → Gives rs l r → d.runs < r
+given_above : (d e : Deck) (rs : List Told) → History d rs e → (l r : ℕ) → Gives rs l r → d.runs < r
 given_above d e [] h l r (x, n, q) = absurd n
 given_above d e (a ∷ rs) h zero r (x, n, q) =
-    let g = subst (λ (b : Answer). Grants d b) n h.0 in
+    let g = subst (λ (b : Told). Grants d b) n h.0 in
     omega (arith, next_run d x g.0 g.1)
-given_above d e (Released x ∷ rs) h (suc l) r t = let low = given_above (gone_out d) e rs h.1 l r t in omega arith
-given_above d e (Moved x ∷ rs) h (suc l) r t = given_above d e rs h.1 l r t
-given_above d e (Finished x ∷ rs) h (suc l) r t = given_above (freed d) e rs h.1 l r t
-given_above d e (Recalled x ∷ rs) h (suc l) r t = given_above (freed d) e rs h.1 l r t
-given_above d e (Refused f ∷ rs) h (suc l) r t = given_above d e rs h.1 l r t
-given_above d e (NoSlip ∷ rs) h (suc l) r t = given_above d e rs h.1 l r t
+given_above d e (Some (Ok (Released x)) ∷ rs) h (suc l) r t = let low = given_above (gone_out d) e rs h.1 l r t in omega arith
+given_above d e (Some (Ok (Moved x)) ∷ rs) h (suc l) r t = given_above d e rs h.1 l r t
+given_above d e (Some (Ok (Finished x)) ∷ rs) h (suc l) r t = given_above (freed d) e rs h.1 l r t
+given_above d e (Some (Ok (Recalled x)) ∷ rs) h (suc l) r t = given_above (freed d) e rs h.1 l r t
+given_above d e (Some (Err f) ∷ rs) h (suc l) r t = given_above d e rs h.1 l r t
+given_above d e (None ∷ rs) h (suc l) r t = given_above d e rs h.1 l r t
 
-never_again : (d e : Deck) (rs : List Answer) → History d rs e → (k l r : ℕ) → k < l → Takes rs k r → (Takes rs l r → ⊥) × (Gives rs l r → ⊥)
+never_again : (d e : Deck) (rs : List Told) → History d rs e → (k l r : ℕ) → k < l → Takes rs k r → (Takes rs l r → ⊥) × (Gives rs l r → ⊥)
 never_again d e [] h k l r lt (x, inl n, q) = absurd n
 never_again d e [] h k l r lt (x, inr n, q) = absurd n
 never_again d e (a ∷ rs) h k zero r lt t = absurd (omega arith)

@@ -3,8 +3,9 @@ use Rattle.std.specs.Prelude.{◌≡◌, ℕ, ◌+◌, ◌<◌, ◌≤◌, Bool,
 use Rattle.fault.specs.declared.cause.Cause.TheVariants.{SlipNotOfRun, WrongInstant}
 use Rattle.deck.specs.declared.state.Deck.{Deck}
 use Rattle.deck.specs.declared.slip.Slip.{Slip}
+use Rattle.deck.specs.declared.slip.SlipNumbers.{SlipNumbers}
 use Rattle.deck.specs.declared.slip.Returned.{Returned}
-use Rattle.deck.specs.Slips.{HandedBack}
+use Rattle.deck.specs.Slips.{HandedBack, slip_with}
 
 -- a free deck that has made no run
 abbrev pub new_deck : (name : ℕ) → Deck
@@ -19,23 +20,23 @@ abbrev pub gone_out : Deck → Deck
 gone_out d = record { name = d.name; runs = d.runs + 1; is_out = true }
 
 abbrev pub slip_of : Deck → (last : ℕ) → Slip
-slip_of d last = record { name = d.name; run = d.runs + 1; instant = 0; last = last }
+slip_of d last = slip_with (record { name = d.name; run = d.runs + 1; instant = 0; last = last })
 
 -- the deck free again
 abbrev pub freed : Deck → Deck
 freed d = record { name = d.name; runs = d.runs; is_out = false }
 
--- the deck is out, and on the run of the slip
-abbrev pub fits : Slip → Deck → Bool
-fits s d = d.is_out && (s.name == d.name && s.run == d.runs)
+-- the deck is out, and on the run of the slip that says so
+abbrev pub fits : SlipNumbers → Deck → Bool
+fits x d = d.is_out && (x.name == d.name && x.run == d.runs)
 
 -- finish takes the deck's own slip at its last instant
 abbrev pub Finishes : Slip → (d e : Deck) → Result (Unit {0}) Returned → Type 0
-Finishes s d e (Ok done) = (fits s d ≡ true) × (s.last ≤ s.instant) × (e ≡ freed d)
+Finishes s d e (Ok done) = (fits s.numbers d ≡ true) × (s.numbers.last ≤ s.numbers.instant) × (e ≡ freed d)
 Finishes s d e (Err x) =
-    ((fits s d ≡ false) × HandedBack SlipNotOfRun s x × (e ≡ d)) ⊎ ((fits s d ≡ true) × (s.instant < s.last) × HandedBack WrongInstant s x × (e ≡ d))
+    ((fits s.numbers d ≡ false) × HandedBack SlipNotOfRun s x × (e ≡ d)) ⊎ ((fits s.numbers d ≡ true) × (s.numbers.instant < s.numbers.last) × HandedBack WrongInstant s x × (e ≡ d))
 
 -- recall takes it at any
 abbrev pub Recalls : Slip → (d e : Deck) → Result (Unit {0}) Returned → Type 0
-Recalls s d e (Ok done) = (fits s d ≡ true) × (e ≡ freed d)
-Recalls s d e (Err x) = (fits s d ≡ false) × HandedBack SlipNotOfRun s x × (e ≡ d)
+Recalls s d e (Ok done) = (fits s.numbers d ≡ true) × (e ≡ freed d)
+Recalls s d e (Err x) = (fits s.numbers d ≡ false) × HandedBack SlipNotOfRun s x × (e ≡ d)

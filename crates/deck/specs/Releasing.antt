@@ -18,7 +18,7 @@ release_told d (Err fault) = Err fault
 
 -- a free deck went out with the slip of its next run, or else is as it was
 abbrev pub WentOut : (d e : Deck) → Result Slip Fault → Type 0
-WentOut d e (Ok s) = (ready d ≡ true) × (s ≡ slip_of d s.last) × (e ≡ gone_out d)
+WentOut d e (Ok s) = (ready d ≡ true) × (s ≡ slip_of d s.numbers.last) × (e ≡ gone_out d)
 WentOut d e (Err fault) = e ≡ d
 
 -- what holds when the search is idle, and at each tree: of what it tells about its plan

@@ -9,72 +9,68 @@ use Rattle.deck.specs.declared.state.Deck.{Deck}
 use Rattle.deck.specs.declared.slip.Slip.{Slip}
 use Rattle.deck.specs.declared.call.Call.{Call}
 use Rattle.deck.specs.declared.call.Call.TheVariants as calls
-use Rattle.deck.specs.declared.call.Answer.{Answer}
-use Rattle.deck.specs.declared.call.Answer.TheVariants.{Released, Moved, Finished, Recalled, Refused, NoSlip}
-use Rattle.deck.specs.Slips.{numbers_of, slip_with, later}
+use Rattle.deck.specs.declared.call.Done.TheVariants.{Released, Moved, Finished, Recalled}
+use Rattle.deck.specs.Slips.{slip_with, later}
 use Rattle.deck.specs.Decks.{fits}
 use Rattle.deck.specs.Releasing.{release_told, ByLast}
-use Rattle.deck.specs.Law.{deck_after, History, Lawful}
+use Rattle.deck.specs.Law.{Told, deck_after, History, Lawful}
 
 -- a slip given, or a refusal
-abbrev pub slip_told : Result Slip Fault → Answer
-slip_told (Ok s) = Released (numbers_of s)
-slip_told (Err fault) = Refused fault
+abbrev pub slip_told : Result Slip Fault → Told
+slip_told (Ok s) = Some (Ok (Released s.numbers))
+slip_told (Err fault) = Some (Err fault)
 
 -- onward, finish and recall of the slip in hand
-abbrev pub onward_told : Slip → Answer
-onward_told s = cond (nat_lt s.instant s.last) (Moved (numbers_of (later s))) (Refused (fault_at WrongInstant 0))
+abbrev pub onward_told : Slip → Told
+onward_told s = Some (cond (nat_lt s.numbers.instant s.numbers.last) (Ok (Moved (later s).numbers)) (Err (fault_at WrongInstant 0)))
 
-abbrev pub finish_told : Deck → Slip → Answer
-finish_told d s = cond (fits s d) (cond (nat_lt s.instant s.last) (Refused (fault_at WrongInstant 0)) (Finished (numbers_of s))) (Refused (fault_at SlipNotOfRun 0))
+abbrev pub finish_told : Deck → Slip → Told
+finish_told d s =
+    Some (cond (fits s.numbers d) (cond (nat_lt s.numbers.instant s.numbers.last) (Err (fault_at WrongInstant 0)) (Ok (Finished s.numbers))) (Err (fault_at SlipNotOfRun 0)))
 
-abbrev pub recall_told : Deck → Slip → Answer
-recall_told d s = cond (fits s d) (Recalled (numbers_of s)) (Refused (fault_at SlipNotOfRun 0))
+abbrev pub recall_told : Deck → Slip → Told
+recall_told d s = Some (cond (fits s.numbers d) (Ok (Recalled s.numbers)) (Err (fault_at SlipNotOfRun 0)))
 
 -- what a deck answers to a call, by the slip in hand and by what the search tells of its plan
-abbrev pub answer_to : Deck → (last : Result ℕ Fault) → (hand : Option Slip) → Call → Answer
-answer_to d last None calls.Release = slip_told (release_told d last)
-answer_to d last None calls.Onward = NoSlip
-answer_to d last None calls.Finish = NoSlip
-answer_to d last None calls.Recall = NoSlip
-answer_to d last (Some s) calls.Release = slip_told (release_told d last)
+abbrev pub answer_to : Deck → (last : Result ℕ Fault) → (hand : Option Slip) → Call → Told
+answer_to d last hand calls.Release = slip_told (release_told d last)
 answer_to d last (Some s) calls.Onward = onward_told s
 answer_to d last (Some s) calls.Finish = finish_told d s
 answer_to d last (Some s) calls.Recall = recall_told d s
+answer_to d last None _ = None
 
 -- the slip in hand after that
-abbrev pub hand_after : Option Slip → Answer → Option Slip
-hand_after hand (Released x) = Some (slip_with x)
-hand_after hand (Moved x) = Some (slip_with x)
-hand_after hand (Finished x) = None
-hand_after hand (Recalled x) = None
-hand_after hand (Refused fault) = hand
-hand_after hand NoSlip = hand
+abbrev pub hand_after : Option Slip → Told → Option Slip
+hand_after hand (Some (Ok (Released x))) = Some (slip_with x)
+hand_after hand (Some (Ok (Moved x))) = Some (slip_with x)
+hand_after hand (Some (Ok (Finished x))) = None
+hand_after hand (Some (Ok (Recalled x))) = None
+hand_after hand _ = hand
 
 -- the answers to a list of calls
-abbrev pub answers_to : Deck → (last : Result ℕ Fault) → (hand : Option Slip) → List Call → List Answer
+abbrev pub answers_to : Deck → (last : Result ℕ Fault) → (hand : Option Slip) → List Call → List Told
 answers_to d last hand [] = []
 answers_to d last hand (c ∷ cs) =
     answer_to d last hand c ∷ answers_to (deck_after d (answer_to d last hand c)) last (hand_after hand (answer_to d last hand c)) cs
 
 -- the slip in hand after them
-abbrev pub hand_left : Option Slip → List Answer → Option Slip
+abbrev pub hand_left : Option Slip → List Told → Option Slip
 hand_left hand [] = hand
 hand_left hand (a ∷ rs) = hand_left (hand_after hand a) rs
 
 -- it is recalled
-abbrev pub closing : Option Slip → List Answer
+abbrev pub closing : Option Slip → List Told
 closing None = []
-closing (Some s) = Recalled (numbers_of s) ∷ []
+closing (Some s) = Some (Ok (Recalled s.numbers)) ∷ []
 
 -- A deck d was asked so with a search, in a buffer that held `before`; then the deck is e, and the buffer holds `after`.
-module _ {F R : Type 0} (sets : R → Sets) (s : Search F R) (calls : List Call) (d e : Deck) (before after : List Answer) where
+module _ {F R : Type 0} (sets : R → Sets) (s : Search F R) (calls : List Call) (d e : Deck) (before after : List Told) where
   -- the answers to the calls
-  abbrev told : List Answer
+  abbrev told : List Told
   told = take (length calls) after
 
   -- all that was answered, with the recall of a slip that was left
-  abbrev all : List Answer
+  abbrev all : List Told
   all = told ++ closing (hand_left None told)
 
   pub record Ran : Type 0 where

@@ -1,4 +1,4 @@
--- Slips: what they say, and how they go onward.
+-- Slips: how they go onward, and how they come back.
 use Rattle.std.specs.Prelude.{◌≡◌, ◌+◌, ◌<◌, ◌≤◌, Ok, Err, Result}
 use Rattle.fault.specs.declared.cause.Cause.{Cause}
 use Rattle.fault.specs.declared.cause.Cause.TheVariants.{WrongInstant}
@@ -7,16 +7,13 @@ use Rattle.deck.specs.declared.slip.Slip.{Slip}
 use Rattle.deck.specs.declared.slip.SlipNumbers.{SlipNumbers}
 use Rattle.deck.specs.declared.slip.Returned.{Returned}
 
-abbrev pub numbers_of : Slip → SlipNumbers
-numbers_of s = record { name = s.name; run = s.run; instant = s.instant; last = s.last }
-
 -- the slip that says so
 abbrev pub slip_with : SlipNumbers → Slip
-slip_with x = record { name = x.name; run = x.run; instant = x.instant; last = x.last }
+slip_with x = record { numbers = x }
 
 -- the slip one instant later
 abbrev pub later : Slip → Slip
-later s = record { name = s.name; run = s.run; instant = s.instant + 1; last = s.last }
+later s = slip_with (record s.numbers { instant = s.numbers.instant + 1 })
 
 -- the slip comes back as it was, with a fault of this cause
 pub record HandedBack (cause : Cause) (s : Slip) (x : Returned) : Type 0 where
@@ -25,5 +22,5 @@ pub record HandedBack (cause : Cause) (s : Slip) (x : Returned) : Type 0 where
 
 -- before its last instant it goes on by one
 abbrev pub GoesOnward : Slip → Result Slip Returned → Type 0
-GoesOnward s (Ok t) = (s.instant < s.last) × (t ≡ later s)
-GoesOnward s (Err x) = (s.last ≤ s.instant) × HandedBack WrongInstant s x
+GoesOnward s (Ok t) = (s.numbers.instant < s.numbers.last) × (t ≡ later s)
+GoesOnward s (Err x) = (s.numbers.last ≤ s.numbers.instant) × HandedBack WrongInstant s x

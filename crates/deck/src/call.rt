@@ -3,7 +3,7 @@ use crate::slip::SlipNumbers;
 use fault::cause::Fault;
 
 // Release the search's plan; hand in the slip that is held.
-#[derive(Clone, Copy)]
+#[derive(Clone, Copy, PartialEq, Debug)]
 pub enum Call {
     Release,
     Onward,
@@ -11,14 +11,14 @@ pub enum Call {
     Recall,
 }
 
-// What came of a call: a slip was given; the slip is one instant later; it was taken at its end, or before; a refusal, which changes
-// nothing; or no slip was held that could be handed in.
-#[derive(Clone, Copy)]
-pub enum Answer {
+// What a call did: a slip was given; the slip is one instant later; it was taken at its end, or before.
+#[derive(Clone, Copy, PartialEq, Debug)]
+pub enum Done {
     Released(SlipNumbers),
     Moved(SlipNumbers),
     Finished(SlipNumbers),
     Recalled(SlipNumbers),
-    Refused(Fault),
-    NoSlip,
 }
+
+// What came of a call: what it did, or a refusal, which changes nothing; or none where no slip was held that could be handed in.
+pub type Answer = Option<Result<Done, Fault>>;

@@ -1,10 +1,10 @@
 // One call, made with the slip in hand or with none.
-ghost use Rattle.std.specs.Prelude.{◌≡◌, true, Some, None};
+ghost use Rattle.std.specs.Prelude.{◌≡◌, true, Some, None, Err};
 ghost use Rattle.deck.specs.Decks.{fits};
 ghost use Rattle.deck.specs.Workings.{InHand, Answers, TellsOnward, TellsFinish, TellsRecall};
 
 use crate::Deck;
-use crate::call::{Answer, Call};
+use crate::call::{Answer, Call, Done};
 use crate::slip::{Returned, Slip};
 use fleet::Fleet;
 use search::Search;
@@ -16,22 +16,16 @@ pub(crate) struct Step {
     pub(crate) hand: Option<Slip>,
 }
 
-impl Step {
-    fn holding(answer: Answer, slip: Slip) -> Step
-        ensures answer { result.answer ≡ answer }
-        ensures hand { result.hand ≡ Some slip }
-    {
+// A slip that is handed back stays in hand.
+impl From<Returned> for Step {
+    ghost from_gives = { λ returned step. (step.answer ≡ Some (Err returned.fault)) × (step.hand ≡ Some returned.slip) };
+
+    fn from(returned: Returned) -> Step {
+        let Returned { fault, slip } = returned;
         Step {
-            answer,
+            answer: Some(Err(fault)),
             hand: Some(slip),
         }
-    }
-
-    fn empty_handed(answer: Answer) -> Step
-        ensures answer { result.answer ≡ answer }
-        ensures hand { result.hand ≡ None }
-    {
-        Step { answer, hand: None }
     }
 }
 
@@ -61,22 +55,30 @@ impl Deck {
     {
         match call {
             Call::Release => match self.release(search) {
-                Ok(slip) => Step::holding(Answer::Released(slip.numbers()), slip),
-                Err(fault) => Step::empty_handed(Answer::Refused(fault)),
+                Ok(slip) => Step {
+                    answer: Some(Ok(Done::Released(slip.numbers()))),
+                    hand: Some(slip),
+                },
+                Err(fault) => Step {
+                    answer: Some(Err(fault)),
+                    hand: None,
+                },
             },
-            Call::Onward => Step::empty_handed(Answer::NoSlip),
-            Call::Finish => Step::empty_handed(Answer::NoSlip),
-            Call::Recall => Step::empty_handed(Answer::NoSlip),
+            Call::Onward | Call::Finish | Call::Recall => Step {
+                answer: None,
+                hand: None,
+            },
         }
     }
 
+    // That the slip fits is asked here: a struct with the lent deck, the slip and this fact in it could not be taken apart.
     fn answer_slip<F: Fleet, R: SplitRule>(
         &mut self,
         search: &Search<F, R>,
         call: Call,
         slip: Slip,
     ) -> Step
-        requires { fits slip self.old ≡ true }
+        requires { fits slip.numbers self.old ≡ true }
         ensures { Answers R.SplitRule.sets search.now self.old self.new call (Some slip) result.answer result.hand }
     {
         match call {
@@ -89,7 +91,7 @@ impl Deck {
 
     // The deck is out on the run of the slip in hand, so it gives no other.
     fn release_again<F: Fleet, R: SplitRule>(&mut self, search: &Search<F, R>, slip: Slip) -> Step
-        requires { fits slip self.old ≡ true }
+        requires { fits slip.numbers self.old ≡ true }
         ensures { Answers R.SplitRule.sets search.now self.old self.new Call.Release (Some slip) result.answer result.hand }
     {
         match self.release(search) {
@@ -98,7 +100,7 @@ impl Deck {
                 second.spend();
                 unreachable()
             }
-            Err(fault) => Step::holding(Answer::Refused(fault), slip),
+            Err(fault) => Step::from(Returned { fault, slip }),
         }
     }
 
@@ -107,8 +109,11 @@ impl Deck {
     {
         let numbers = slip.numbers();
         match self.finish(slip) {
-            Ok(()) => Step::empty_handed(Answer::Finished(numbers)),
-            Err(Returned { fault, slip }) => Step::holding(Answer::Refused(fault), slip),
+            Ok(()) => Step {
+                answer: Some(Ok(Done::Finished(numbers))),
+                hand: None,
+            },
+            Err(returned) => Step::from(returned),
         }
     }
 
@@ -117,8 +122,11 @@ impl Deck {
     {
         let numbers = slip.numbers();
         match self.recall(slip) {
-            Ok(()) => Step::empty_handed(Answer::Recalled(numbers)),
-            Err(Returned { fault, slip }) => Step::holding(Answer::Refused(fault), slip),
+            Ok(()) => Step {
+                answer: Some(Ok(Done::Recalled(numbers))),
+                hand: None,
+            },
+            Err(returned) => Step::from(returned),
         }
     }
 }
@@ -127,7 +135,10 @@ fn move_on(slip: Slip) -> Step
     ensures { TellsOnward slip result.answer result.hand }
 {
     match slip.onward() {
-        Ok(later) => Step::holding(Answer::Moved(later.numbers()), later),
-        Err(Returned { fault, slip }) => Step::holding(Answer::Refused(fault), slip),
+        Ok(later) => Step {
+            answer: Some(Ok(Done::Moved(later.numbers()))),
+            hand: Some(later),
+        },
+        Err(returned) => Step::from(returned),
     }
 }

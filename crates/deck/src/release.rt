@@ -2,7 +2,7 @@
 ghost use Rattle.deck.specs.Releasing.{Releases};
 
 use crate::Deck;
-use crate::slip::Slip;
+use crate::slip::{Slip, SlipNumbers};
 use fault::cause::{Cause, Fault};
 use fleet::Fleet;
 use search::Search;
@@ -20,10 +20,12 @@ impl Deck {
         self.runs += 1;
         self.is_out = true;
         Ok(Slip {
-            name: self.name,
-            run: self.runs,
-            instant: 0,
-            last,
+            numbers: SlipNumbers {
+                name: self.name,
+                run: self.runs,
+                instant: 0,
+                last,
+            },
         })
     }
 }

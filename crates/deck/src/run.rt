@@ -43,11 +43,12 @@ impl Deck {
         ensures { Makes R.SplitRule.sets search.now calls.now self.old self.new answers.old answers.new result }
     {
         let mut hand = None;
+        // By index: of what is written through `iter_mut` a proof keeps the length alone.
         for (i, call) in calls.iter().enumerate() {
-            let step = self.answer(search, *call, hand);
-            let Step { answer, hand: left } = step;
-            answers[i] = answer;
-            hand = left;
+            Step {
+                answer: answers[i],
+                hand,
+            } = self.answer(search, *call, hand);
         }
         hand
     }
@@ -57,23 +58,19 @@ impl Deck {
         requires { InHand self.old hand }
         ensures { Closes self.old self.new hand }
     {
-        match hand {
-            None => {}
-            Some(slip) => self.give_back(slip),
+        if let Some(slip) = hand {
+            self.give_back(slip);
         }
     }
 
     // Recalls the slip of the run that the deck is out on.
     fn give_back(&mut self, slip: Slip)
-        requires { fits slip self.old ≡ true }
+        requires { fits slip.numbers self.old ≡ true }
         ensures { self.new ≡ freed self.old }
     {
-        match self.recall(slip) {
-            Ok(()) => {}
-            Err(Returned { fault: _, slip }) => {
-                slip.spend();
-                unreachable()
-            }
+        if let Err(Returned { slip, .. }) = self.recall(slip) {
+            slip.spend();
+            unreachable()
         }
     }
 }

@@ -1,25 +1,21 @@
 // The slip of a run: a token that has to be spent.
 ghost use Rattle.std.specs.Prelude.{◌≡◌};
-ghost use Rattle.deck.specs.Slips.{numbers_of, GoesOnward};
+ghost use Rattle.deck.specs.Slips.{GoesOnward};
 
 use fault::cause::{Cause, Fault};
 
-// One run of a deck: the deck's name, the number of the run, the instant that it is at, and its last. It is not `Drop`, and its fields are
-// the crate's own, so only `finish` and `recall` can take it.
-pub struct Slip {
-    pub(crate) name: u16,
-    pub(crate) run: u16,
-    pub(crate) instant: u8,
-    pub(crate) last: u8,
-}
-
-// What a slip says, to be kept and compared.
+// What a slip says, to be kept and compared: the deck's name, the number of the run, the instant that it is at, and its last.
 #[derive(Clone, Copy, PartialEq, Debug)]
 pub struct SlipNumbers {
     pub name: u16,
     pub run: u16,
     pub instant: u8,
     pub last: u8,
+}
+
+// One run of a deck. It is not `Drop`, and its field is the crate's own, so only `finish` and `recall` can take it.
+pub struct Slip {
+    pub(crate) numbers: SlipNumbers,
 }
 
 // A refusal that hands the slip back.
@@ -30,47 +26,32 @@ pub struct Returned {
 
 impl Slip {
     pub fn numbers(&self) -> SlipNumbers
-        ensures { result ≡ numbers_of self.now }
+        ensures { result ≡ self.now.numbers }
     {
-        SlipNumbers {
-            name: self.name,
-            run: self.run,
-            instant: self.instant,
-            last: self.last,
-        }
+        self.numbers
     }
 
     // The slip one instant later.
     pub fn onward(self) -> Result<Slip, Returned>
         ensures { GoesOnward self result }
     {
-        if self.instant >= self.last {
+        if self.numbers.instant >= self.numbers.last {
             return Err(Returned {
                 fault: Cause::WrongInstant.at(0),
                 slip: self,
             });
         }
-        let Slip {
-            name,
-            run,
-            instant,
-            last,
-        } = self;
+        let Slip { numbers } = self;
         Ok(Slip {
-            name,
-            run,
-            instant: instant + 1,
-            last,
+            numbers: SlipNumbers {
+                instant: numbers.instant + 1,
+                ..numbers
+            },
         })
     }
 
     // The end of a slip: only `finish` and `recall` call it.
     pub(crate) fn spend(self) {
-        let Slip {
-            name: _,
-            run: _,
-            instant: _,
-            last: _,
-        } = self;
+        let Slip { numbers: _ } = self;
     }
 }

@@ -29,7 +29,7 @@ impl Deck {
     pub fn finish(&mut self, slip: Slip) -> Result<(), Returned>
         ensures { Finishes slip self.old self.new result }
     {
-        if self.is_of_run(&slip) && slip.instant < slip.last {
+        if self.is_of_run(&slip) && slip.numbers.instant < slip.numbers.last {
             return Err(Returned {
                 fault: Cause::WrongInstant.at(0),
                 slip,
@@ -55,8 +55,8 @@ impl Deck {
 
     // Whether the deck is out on the run of the slip.
     fn is_of_run(&self, slip: &Slip) -> bool
-        ensures { result ≡ fits slip.now self.now }
+        ensures { result ≡ fits slip.now.numbers self.now }
     {
-        self.is_out && slip.name == self.name && slip.run == self.runs
+        self.is_out && slip.numbers.name == self.name && slip.numbers.run == self.runs
     }
 }

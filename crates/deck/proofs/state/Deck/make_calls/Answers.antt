@@ -3,18 +3,10 @@ use Rattle.deck.proofs.Calling.{none_made, one_more, all_made}
 use Rattle.deck.proofs.state.Deck.make_calls.Goals as goal
 
 pub loop-i-init : goal.loop-i-init
-loop-i-init g c = none_made g.R.SplitRule.sets c.args.search.now c.args.calls.now c.args.self.now c.args.answers.now
+loop-i-init g c = none_made
 
 pub loop-i-preserved : goal.loop-i-preserved
-loop-i-preserved g c =
-    one_more g.R.SplitRule.sets c.args.search.now c.args.calls.now c.args.self.now c.args.answers.now c.loop-i.i c.loop-i.self c.loop-i.answers c.loop-i.hand
-    c.loop-i.invariant c.answer-step.new.self c.answer-step.result.answer c.answer-step.result.hand c.answer-step.ensures c.loop-i-test.true
-    (omega (arith, c.loop-i-test.true, c.requires, c.loop-i.auto.answers))
-
-pub answer-step-requires : goal.answer-step-requires
-answer-step-requires g c = c.loop-i.invariant.in_hand
+loop-i-preserved g c = one_more c.loop-i.invariant c.answer.ensures c.loop-i-test.true (omega (arith, c.loop-i-test.true, c.requires, c.loop-i.auto.answers))
 
 pub returns : goal.returns
-returns g c =
-    all_made g.R.SplitRule.sets c.args.search.now c.args.calls.now c.args.self.now c.args.answers.now c.loop-i.i c.loop-i.self c.loop-i.answers c.loop-i.hand
-    c.loop-i.invariant (omega (arith, c.loop-i-test.false, c.loop-i.auto.i-end))
+returns g c = all_made c.loop-i.invariant (omega (arith, c.loop-i-test.false, c.loop-i.auto.i-end))
