@@ -1,6 +1,6 @@
 -- Answers, by what the engine found.
-use Rattle.std.proofs.Common.{◌≡◌, ℕ, zero, suc, ◌<◌, ◌≤◌, Bool, true, false, cond, ltb, leb, List, [], ◌∷◌, length, get_or, take, Some, None, Option, sym, refl, ap, ◌∙◌, subst, ap₂, arith}
-use Rattle.std.proofs.lemmas.Bool.{lt-ltb, le-leb, and_from}
+use Rattle.std.proofs.Common.{◌≡◌, ℕ, zero, suc, ◌<◌, ◌≤◌, Bool, true, false, cond, ◌&&◌, ltb, leb, List, [], ◌∷◌, length, get_or, take, Some, None, Option, sym, refl, ap, ◌∙◌, subst, ap₂, ⊎_elim, arith}
+use Rattle.std.proofs.lemmas.Bool.{lt-ltb, le-ltb, ltb-true, le-leb, leb-true, and_from, and_parts, cond-true, cond-false, cases_Bool}
 use Rattle.std.specs.Option.{option_map}
 use Rattle.tree.specs.Setting.{Setting}
 use Rattle.tree.specs.Plans.{Plan, route, place, sum, makespan}
@@ -9,11 +9,11 @@ use Rattle.tree.specs.Tree as tree
 use Rattle.tree.specs.Calls as calls
 use Rattle.engine.specs.declared.node.Node.{Node}
 use Rattle.engine.specs.declared.node.Verdict.{Verdict}
-use Rattle.engine.specs.declared.node.Verdict.TheVariants.{Solved}
+use Rattle.engine.specs.declared.node.Verdict.TheVariants.{Working, Solved, Unsolvable, Full}
 use Rattle.engine.specs.Model.{Model, search_of}
 use Rattle.engine.specs.Table.{plan_of, at_of, verdict_of, Follows, blank, empty, found_of}
-use Rattle.engine.specs.Least.{CheapestSoFar}
-use Rattle.engine.specs.Engine.{Answers, route_told, makespan_told}
+use Rattle.engine.specs.Least.{CheapestSoFar, sum_at}
+use Rattle.engine.specs.Engine.{Answers, solution, route_told, makespan_told}
 use Rattle.engine.specs.declared.state.Engine.{Engine}
 use Rattle.engine.proofs.Plans.{route_of, place_of}
 use Rattle.engine.proofs.Cheapest.{cheapest_of}
@@ -30,11 +30,9 @@ module _ (m : Model) (table : List Node) (v : Verdict) (t : tree.Tree) (f : Foll
   unfolding tree.bound
   bound_of r b = ap (option_map (λ (x : tree.Found). sum S x.node.routes)) (cheapest_of m table t.nodes f.tracks r b)
 
-  pub bound_some : (k : ℕ) → CheapestSoFar table (length table) (Some k) → Some (get_or table k empty).sum ≡ tree.bound S t
-  bound_some k b = ap {B = Option ℕ} Some (f.tracks.each k b.below).sum_is ∙ sym (bound_of (Some k) b)
-
-  pub bound_none : CheapestSoFar table (length table) None → None ≡ tree.bound S t
-  bound_none b = sym (bound_of None b)
+  pub told_bound : (r : Option ℕ) → CheapestSoFar table (length table) r → option_map (sum_at table) r ≡ tree.bound S t
+  told_bound None b = sym (bound_of None b)
+  told_bound (Some k) b = ap {B = Option ℕ} Some (f.tracks.each k b.below).sum_is ∙ sym (bound_of (Some k) b)
 
   -- to advance
   pub told_ended : (limit k : ℕ) → tree.is_working (verdict_of v) ≡ false → (calls.refused calls.Ended ≡ calls.reply P limit t (calls.advance k)) × Follows m table v (calls.after P limit t (calls.advance k))
@@ -69,28 +67,68 @@ module _ (m : Model) (table : List Node) (k : ℕ) (t : tree.Tree) (f : Follows 
   abbrev rs : List (List ℕ)
   rs = (get_or table k empty).routes
 
-  solution : calls.routes_at t.nodes k ≡ plan_of m.setting rs
-  solution = routes_are t.nodes k ∙ (f.tracks.each k l).routes
+  solved_plan : calls.routes_at t.nodes k ≡ plan_of m.setting rs
+  solved_plan = routes_are t.nodes k ∙ (f.tracks.each k l).routes
 
-  pub told_makespan : Some (makespan m.setting (plan_of m.setting rs)) ≡ makespan_told m.setting t.nodes t.verdict
-  told_makespan =
-      let S = m.setting in
-      ap {B = Option ℕ} (λ (p : Plan). Some (makespan S p)) (sym solution) ∙ sym (ap (makespan_told S t.nodes) f.verdict_is)
+  pub told_solution : Some (plan_of m.setting rs) ≡ solution t.nodes t.verdict
+  told_solution = ap {B = Option Plan} Some (sym solved_plan) ∙ sym (ap (solution t.nodes) f.verdict_is)
 
-  module _ (s : ℕ) (h : s < m.setting.sleds) where
-    pub told_place : (i : ℕ) → i ≤ m.setting.horizon → calls.stands (at_of rs s i) ≡ calls.placed m.setting t.nodes t.verdict s i
-    told_place i n =
-        let S = m.setting in
-        let both = and_from (ltb s S.sleds) (leb i S.horizon) (lt-ltb s S.sleds h) (le-leb i S.horizon n) in
-        let here : at_of rs s i ≡ place (calls.routes_at t.nodes k) s i = sym (ap (λ (p : Plan). place p s i) solution ∙ place_of S rs s i h (omega arith)) in
-        ap calls.stands here
-        ∙ sym (ap (λ (w : tree.Verdict). calls.placed S t.nodes w s i) f.verdict_is ∙ ap (λ (b : Bool). cond b (calls.stands (place (calls.routes_at t.nodes k) s i)) (calls.refused calls.TooHigh)) both)
+pub told_unsolved : (m : Model) (table : List Node) (v : Verdict) (t : tree.Tree) → Follows m table v t → ((k : ℕ) → v ≡ Solved k → ⊥) → None ≡ solution t.nodes t.verdict
+told_unsolved m table Working t f h = sym (ap (solution t.nodes) f.verdict_is)
+told_unsolved m table (Solved k) t f h = absurd (h k refl)
+told_unsolved m table Unsolvable t f h = sym (ap (solution t.nodes) f.verdict_is)
+told_unsolved m table Full t f h = sym (ap (solution t.nodes) f.verdict_is)
 
-    pub told_route : Some (take (suc m.setting.horizon) (get_or rs s [])) ≡ route_told m.setting t.nodes t.verdict s
-    told_route =
-        let S = m.setting in
-        ap {B = Option (List ℕ)} Some (sym (ap (λ (p : Plan). route p s) solution ∙ route_of S rs s h))
-        ∙ sym (ap (λ (w : tree.Verdict). route_told S t.nodes w s) f.verdict_is ∙ ap (λ (b : Bool). cond b (Some (route (calls.routes_at t.nodes k) s)) None) (lt-ltb s S.sleds h))
+-- what is told of the plan that solves the tree, or of none
+module _ (S : Setting) (nodes : List tree.Node) where
+  abbrev place_in : Option Plan → (s i : ℕ) → calls.Answer
+  place_in None s i = calls.refused calls.NotSolved
+  place_in (Some p) s i = cond (ltb s S.sleds && leb i S.horizon) (calls.stands (place p s i)) (calls.refused calls.TooHigh)
+
+  place_told : (v : tree.Verdict) (o : Option Plan) (s i : ℕ) → o ≡ solution nodes v → place_in o s i ≡ calls.placed S nodes v s i
+  place_told (tree.solved k) o s i e = ap (λ q. place_in q s i) e
+  place_told tree.working o s i e = ap (λ q. place_in q s i) e
+  place_told tree.none o s i e = ap (λ q. place_in q s i) e
+  place_told tree.full o s i e = ap (λ q. place_in q s i) e
+
+  pub place_none : (v : tree.Verdict) (s i : ℕ) → None ≡ solution nodes v → calls.refused calls.NotSolved ≡ calls.placed S nodes v s i
+  place_none v s i e = place_told v None s i e
+
+  pub place_found : (v : tree.Verdict) (rs : List (List ℕ)) (s i : ℕ) → Some (plan_of S rs) ≡ solution nodes v → s < S.sleds → i ≤ S.horizon → calls.stands (at_of rs s i) ≡ calls.placed S nodes v s i
+  place_found v rs s i e h l =
+      let both = and_from (ltb s S.sleds) (leb i S.horizon) (lt-ltb s S.sleds h) (le-leb i S.horizon l) in
+      ap calls.stands (sym (place_of S rs s i h (omega arith))) ∙ sym (cond-true _ (calls.stands (place (plan_of S rs) s i)) (calls.refused calls.TooHigh) both)
+      ∙ place_told v (Some (plan_of S rs)) s i e
+
+  pub place_high : (v : tree.Verdict) (p : Plan) (s i : ℕ) → Some p ≡ solution nodes v → (s < S.sleds → i ≤ S.horizon → ⊥) → calls.refused calls.TooHigh ≡ calls.placed S nodes v s i
+  place_high v p s i e h =
+      ⊎_elim (λ y. let q = and_parts (ltb s S.sleds) (leb i S.horizon) y in absurd (h (ltb-true s S.sleds q.0) (leb-true i S.horizon q.1)))
+      (λ n. sym (cond-false (ltb s S.sleds && leb i S.horizon) (calls.stands (place p s i)) (calls.refused calls.TooHigh) n)) (cases_Bool (ltb s S.sleds && leb i S.horizon))
+      ∙ place_told v (Some p) s i e
+
+  abbrev route_in : Option Plan → (s : ℕ) → Option (List ℕ)
+  route_in None s = None
+  route_in (Some p) s = cond (ltb s S.sleds) (Some (route p s)) None
+
+  pub told_route : (v : tree.Verdict) (o : Option Plan) (s : ℕ) → o ≡ solution nodes v → route_in o s ≡ route_told S nodes v s
+  told_route (tree.solved k) o s e = ap (λ q. route_in q s) e
+  told_route tree.working o s e = ap (λ q. route_in q s) e
+  told_route tree.none o s e = ap (λ q. route_in q s) e
+  told_route tree.full o s e = ap (λ q. route_in q s) e
+
+  pub route_found : (v : tree.Verdict) (rs : List (List ℕ)) (s : ℕ) → Some (plan_of S rs) ≡ solution nodes v → s < S.sleds → Some (take (suc S.horizon) (get_or rs s [])) ≡ route_told S nodes v s
+  route_found v rs s e h =
+      ap {B = Option (List ℕ)} Some (sym (route_of S rs s h)) ∙ sym (cond-true (ltb s S.sleds) (Some (route (plan_of S rs) s)) None (lt-ltb s S.sleds h))
+      ∙ told_route v (Some (plan_of S rs)) s e
+
+  pub route_high : (v : tree.Verdict) (p : Plan) (s : ℕ) → Some p ≡ solution nodes v → S.sleds ≤ s → None ≡ route_told S nodes v s
+  route_high v p s e h = sym (cond-false (ltb s S.sleds) (Some (route p s)) None (le-ltb s S.sleds h)) ∙ told_route v (Some p) s e
+
+  pub told_makespan : (v : tree.Verdict) (o : Option Plan) → o ≡ solution nodes v → option_map (makespan S) o ≡ makespan_told S nodes v
+  told_makespan (tree.solved k) o e = ap (option_map (makespan S)) e
+  told_makespan tree.working o e = ap (option_map (makespan S)) e
+  told_makespan tree.none o e = ap (option_map (makespan S)) e
+  told_makespan tree.full o e = ap (option_map (makespan S)) e
 
 -- the call under another name
 pub answered : (m : Model) (before after : Engine) (c d : calls.Call) (a : calls.Answer) → c ≡ d → Answers m before after d a → Answers m before after c a

@@ -1,16 +1,12 @@
 -- The table of what is forbidden, as it takes one constraint more.
 use Rattle.std.proofs.Common.{◌≡◌, ℕ, ◌+◌, ◌<◌, Bool, true, false, ◌&&◌, ◌||◌, eqb, ◌≢◌, List, [], ◌∷◌, length, get_or, take, set, sym, refl, ap, ◌∙◌, ap₂, ⊎_elim, arith}
 use Rattle.std.proofs.lemmas.Bool.{cases_eq, eq-eqb, ne_eqb, and_parts, or_cases, or_left, or_right}
-use Rattle.std.proofs.lemmas.List.{get_or-set_same, get_or-set_other, take_more_set, length-set}
+use Rattle.std.proofs.lemmas.List.{get_or-set_same, get_or-set_other, take_more_set}
 use Rattle.tree.specs.Constraints as constraints
-use Rattle.engine.specs.declared.forbidden.Move.{Move}
+use Rattle.engine.specs.declared.node.Move.{Move}
 use Rattle.engine.specs.declared.forbidden.Forbidden.{Forbidden}
-use Rattle.engine.specs.Forbids.{forbids_place, forbids_move, marked, is_move, listed, moves_of, Whole, Collected}
-use Rattle.engine.proofs.Marks.{listed_append}
-
-or_assoc : (a b c : Bool) → (a || (b || c)) ≡ ((a || b) || c)
-or_assoc true b c = refl
-or_assoc false b c = refl
+use Rattle.engine.specs.Forbids.{forbids_place, forbids_move, marked, is_move, listed, moves_of, Collected}
+use Rattle.engine.proofs.Marks.{listed_append, or_assoc}
 
 module _ (b c : Forbidden) (rest all : List constraints.Constraint) where
   pub placed : (t : ℕ) (more row : List Bool) → t < 64 → length b.places ≡ 64 → c.places ≡ set b.places t row → c.leaving ≡ b.leaving → c.moves ≡ b.moves → c.count ≡ b.count →
@@ -59,28 +55,3 @@ module _ (b c : Forbidden) (rest all : List constraints.Constraint) where
       moves_more s p q =
           ap (λ (xs : List Move). listed xs s p q) (ap₂ (λ (k : ℕ) (xs : List Move). take k xs) g f ∙ take_more_set b.moves b.count step (omega arith))
           ∙ listed_append (take b.count b.moves) step s p q
-
--- a row replaced in a table of rows
-set_wide : (rows : List (List Bool)) (t : ℕ) (row : List Bool) → t < length rows → length row ≡ 256 → ((s : ℕ) → s < 64 → length (get_or rows s []) ≡ 256) → (s : ℕ) → s < 64 → length (get_or (set rows t row) s []) ≡ 256
-set_wide rows t row l n w s m =
-    ⊎_elim (λ (z : s ≡ t). ap (λ (k : ℕ). length (get_or (set rows t row) k [])) z ∙ ap length (get_or-set_same rows t row [] l) ∙ n)
-    (λ (z : s ≢ t). ap length (get_or-set_other rows t s row [] z) ∙ w s m) (cases_eq s t)
-
--- the table keeps its size
-pub whole_placed : (b c : Forbidden) (t : ℕ) (row : List Bool) → t < 64 → Whole b → length row ≡ 256 → c.places ≡ set b.places t row → c.leaving ≡ b.leaving → c.moves ≡ b.moves → Whole c
-whole_placed b c t row l w n e d f = record {
-  tall = ap length e ∙ length-set b.places t row ∙ w.tall;
-  wide = λ s m. ap (λ (ps : List (List Bool)). length (get_or ps s [])) e ∙ set_wide b.places t row (omega (arith, w.tall)) n w.wide s m;
-  leaving_tall = ap length d ∙ w.leaving_tall;
-  leaving_wide = λ s m. ap (λ (ps : List (List Bool)). length (get_or ps s [])) d ∙ w.leaving_wide s m;
-  long = ap length f ∙ w.long;
-}
-
-pub whole_moved : (b c : Forbidden) (m : Move) → Whole b → c.places ≡ b.places → c.leaving ≡ b.leaving → c.moves ≡ set b.moves b.count m → Whole c
-whole_moved b c m w e d f = record {
-  tall = ap length e ∙ w.tall;
-  wide = λ s l. ap (λ (ps : List (List Bool)). length (get_or ps s [])) e ∙ w.wide s l;
-  leaving_tall = ap length d ∙ w.leaving_tall;
-  leaving_wide = λ s l. ap (λ (ps : List (List Bool)). length (get_or ps s [])) d ∙ w.leaving_wide s l;
-  long = ap length f ∙ length-set b.moves b.count m ∙ w.long;
-}

@@ -1,7 +1,7 @@
 -- Records stay sound.
 use Rattle.std.proofs.Common.{◌≡◌, ℕ, ◌+◌, ◌<◌, ◌≤◌, true, ltb, ◌≢◌, List, [], ◌∷◌, ◌++◌, length, get_or, set, Some, None, Option, sym, refl, ap, ◌∙◌, subst, ⊎_elim, arith}
 use Rattle.std.proofs.lemmas.Bool.{cases_eq, cases_lt, ltb-true, lt-ltb, and_parts, and_from}
-use Rattle.std.proofs.lemmas.List.{length-set, length_push, length-append, get_or-set_same, get_or-set_other, get_or_append_left, get_or_push, append-nil}
+use Rattle.std.proofs.lemmas.List.{length-set, length_push, get_or-set_same, get_or-set_other, get_or_append_left, get_or_push, append-nil}
 use Rattle.std.specs.Option.{option_to_list}
 use Rattle.engine.specs.declared.node.Node.{Node}
 use Rattle.engine.specs.Table.{empty}
@@ -14,11 +14,11 @@ use Rattle.engine.specs.declared.node.SledConstraint.{SledConstraint}
 
 fits_from : (b : Constraint) → is_in_table b ≡ true → FitsTable b
 fits_from (Places t set) e = ltb-true t 64 e
-fits_from (Move t u v) e = tt
+fits_from (Move m) e = ltb-true m.instant 64 e
 
 fits_to : (b : Constraint) → FitsTable b → is_in_table b ≡ true
 fits_to (Places t set) l = lt-ltb t 64 l
-fits_to (Move t u v) l = refl
+fits_to (Move m) l = lt-ltb m.instant 64 l
 
 pub formed_lower : (k : ℕ) (n : Node) (b : SledConstraint) → n.constraint ≡ Some b → WellFormed k n → n.parent < k
 formed_lower k n b e h = ltb-true n.parent k (and_parts (ltb n.parent k) (is_in_table b.constraint) (subst (λ (o : Option SledConstraint). well_formed_constraint k n.parent o ≡ true) e h)).0
@@ -29,7 +29,7 @@ formed_fits k n b e h = fits_from b.constraint (and_parts (ltb n.parent k) (is_i
 pub formed_child : (k parent : ℕ) (b : SledConstraint) → parent < k → FitsTable b.constraint → well_formed_constraint k parent (Some b) ≡ true
 formed_child k parent b l s = and_from (ltb parent k) (is_in_table b.constraint) (lt-ltb parent k l) (fits_to b.constraint s)
 
-formed_closed : (rows : List Node) (k : ℕ) → k < length rows → AllWellFormed rows → AllWellFormed (closed_at rows k)
+pub formed_closed : (rows : List Node) (k : ℕ) → k < length rows → AllWellFormed rows → AllWellFormed (closed_at rows k)
 formed_closed rows k l h j m =
     let n = closed (get_or rows k empty) in
     let m' : j < length rows = omega (arith, length-set rows k n) in
@@ -47,17 +47,6 @@ formed_push rows n h new j m =
     let e : length rows ≡ j = omega arith in
     subst (WellFormed j) (sym (get_or_push rows n empty j e)) (subst (λ (i : ℕ). WellFormed i n) e new)) (cases_lt j (length rows))
 
-formed_extend : (rows : List Node) (r : Option Node) → AllWellFormed rows → MadeWellFormed (length rows) r → AllWellFormed (rows ++ option_to_list r)
+pub formed_extend : (rows : List Node) (r : Option Node) → AllWellFormed rows → MadeWellFormed (length rows) r → AllWellFormed (rows ++ option_to_list r)
 formed_extend rows None h m = subst AllWellFormed (sym (append-nil rows)) h
 formed_extend rows (Some n) h m = formed_push rows n h m
-
-pub formed_root : (r : Option Node) → ((k : ℕ) → MadeWellFormed k r) → AllWellFormed (option_to_list r)
-formed_root r h = formed_extend [] r (λ k l. absurd (omega arith)) (h 0)
-
-pub formed_expanded : (rows : List Node) (number : ℕ) (lower higher : Option Node) → number < length rows → AllWellFormed rows →
-    ((k : ℕ) → number < k → MadeWellFormed k lower) → ((k : ℕ) → number < k → MadeWellFormed k higher) → AllWellFormed ((closed_at rows number ++ option_to_list lower) ++ option_to_list higher)
-formed_expanded rows number lower higher l h a b =
-    let rows₁ = closed_at rows number in
-    let long = length-set rows number (closed (get_or rows number empty)) in
-    let first = formed_extend rows₁ lower (formed_closed rows number l h) (a (length rows₁) (omega arith)) in
-    formed_extend (rows₁ ++ option_to_list lower) higher first (b (length (rows₁ ++ option_to_list lower)) (omega (arith, length-append rows₁ (option_to_list lower))))

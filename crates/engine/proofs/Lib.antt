@@ -4,7 +4,8 @@ pub mod Plans
 pub mod Scanning
 pub mod Cheapest
 pub mod Costs
-pub mod Marks
+mod Made
+mod Marks
 pub mod Collecting
 pub mod Trails
 pub mod Obeying

@@ -1,10 +1,9 @@
 -- The scan by pairs is the theory's.
-use Rattle.std.proofs.Common.{◌≡◌, ℕ, zero, suc, ◌+◌, ◌<◌, Bool, true, false, cond, ◌&&◌, ltb, List, Some, None, Option, sym, refl, ap, ◌∙◌, ⊎_elim, arith}
-use Rattle.std.proofs.lemmas.Bool.{ltb-true, cases_Bool}
+use Rattle.std.proofs.Common.{◌≡◌, ℕ, zero, suc, ◌+◌, ◌<◌, Bool, true, false, cond, ◌&&◌, ltb, List, Some, None, Option, sym, refl, ap, ◌∙◌, arith}
 use Rattle.std.specs.Option.{option_map}
 use Rattle.tree.specs.Lists.{or_else, first_below}
 use Rattle.tree.specs.Setting.{Setting}
-use Rattle.tree.specs.Plans.{meet_at, collide_in}
+use Rattle.tree.specs.Plans.{Plan, meet_at, collide_in}
 use Rattle.tree.specs.Conflicts.{Conflict, meeting, collision, scan, first_conflict}
 use Rattle.engine.specs.Table.{plan_of, at_of}
 use Rattle.engine.specs.Scans.{pair_of, at_pair, at_sled, at_time, scanned}
@@ -25,37 +24,29 @@ mapped_cond : {A B : Type 0} (g : A → B) (b : Bool) (x : A) → option_map g (
 mapped_cond g true x = refl
 mapped_cond g false x = refl
 
-under_test : {b x y : Bool} → (b ≡ true → x ≡ y) → (b && x) ≡ (b && y)
-under_test {b} {x} {y} h = ⊎_elim (λ e. ap (λ c. b && c) (h e)) (λ (e : b ≡ false). ap (λ c. c && x) e ∙ sym (ap (λ c. c && y) e)) (cases_Bool b)
-
-module _ (sleds : ℕ) (make : (t i j : ℕ) → Conflict) (test other : (t i j : ℕ) → Bool) (n : ℕ)
-    (same : (t i j : ℕ) → t < n → i < j → j < sleds → test t i j ≡ other t i j) where
+module _ (sleds : ℕ) (make : (t i j : ℕ) → Conflict) (test : (t i j : ℕ) → Bool) (n : ℕ) where
   abbrev made : Pair → Conflict
   made p = make p.instant p.first p.second
 
-  pub scan_is : option_map made (scanned sleds test n) ≡ scan sleds make other n
+  scan_is : option_map made (scanned sleds test n) ≡ scan sleds make test n
   unfolding scanned at_time at_sled at_pair scan
   scan_is =
-      mapped_below made (at_time sleds test) _ n (λ t l.
-      mapped_below made (at_sled sleds test t) _ sleds (λ i m.
-      mapped_below made (at_pair sleds test t i) _ sleds (λ j h.
-      mapped_cond made (ltb i j && test t i j) (pair_of t i j)
-      ∙ ap (λ b. cond b (Some (make t i j)) None) (under_test (λ e. same t i j l (ltb-true i j e) h)))))
+      mapped_below made (at_time sleds test) _ n (λ t _.
+      mapped_below made (at_sled sleds test t) _ sleds (λ i _.
+      mapped_below made (at_pair sleds test t i) _ sleds (λ j _.
+      mapped_cond made (ltb i j && test t i j) (pair_of t i j))))
 
 module _ (S : Setting) (rs : List (List ℕ)) where
-  abbrev pub meets_in : (t i j : ℕ) → Bool
-  meets_in t i j = S.meets i j (at_of rs i t) (at_of rs j t)
+  abbrev plan : Plan
+  plan = plan_of S rs
 
-  abbrev pub collides_in : (t i j : ℕ) → Bool
-  collides_in t i j = S.collides i j (at_of rs i t) (at_of rs i (t + 1)) (at_of rs j t) (at_of rs j (t + 1))
-
-  meets_same : (t i j : ℕ) → t < suc S.horizon → i < j → j < S.sleds → meets_in t i j ≡ meet_at S (plan_of S rs) t i j
+  pub meets_same : (t i j : ℕ) → t < S.horizon + 1 → i < j → j < S.sleds → S.meets i j (at_of rs i t) (at_of rs j t) ≡ meet_at S plan t i j
   meets_same t i j h l m =
-      let a = place_of S rs i t (omega arith) h in
-      let b = place_of S rs j t m h in
+      let a = place_of S rs i t (omega arith) (omega arith) in
+      let b = place_of S rs j t m (omega arith) in
       cc
 
-  collides_same : (t i j : ℕ) → t < S.horizon → i < j → j < S.sleds → collides_in t i j ≡ collide_in S (plan_of S rs) t i j
+  pub collides_same : (t i j : ℕ) → t < S.horizon → i < j → j < S.sleds → S.collides i j (at_of rs i t) (at_of rs i (t + 1)) (at_of rs j t) (at_of rs j (t + 1)) ≡ collide_in S plan t i j
   collides_same t i j h l m =
       let a = place_of S rs i t (omega arith) (omega arith) in
       let b = place_of S rs j t m (omega arith) in
@@ -64,24 +55,22 @@ module _ (S : Setting) (rs : List (List ℕ)) where
       let e : t + 1 ≡ suc t = omega arith in
       cc
 
-  pub meeting_first : (p : Pair) → Some p ≡ scanned S.sleds meets_in (S.horizon + 1) → Some (meeting p.instant p.first p.second) ≡ first_conflict S (plan_of S rs)
-  unfolding first_conflict
-  meeting_first p e =
-      let all : S.horizon + 1 ≡ suc S.horizon = omega arith in
-      let e' : Some p ≡ scanned S.sleds meets_in (suc S.horizon) = e ∙ ap (scanned S.sleds meets_in) all in
-      let found = ap (option_map (λ (q : Pair). meeting q.instant q.first q.second)) e' ∙ scan_is S.sleds meeting meets_in (meet_at S (plan_of S rs)) (suc S.horizon) meets_same in
-      ap (λ o. or_else o (scan S.sleds collision (collide_in S (plan_of S rs)) S.horizon)) found
+  abbrev collisions : Option Conflict
+  collisions = scan S.sleds collision (collide_in S plan) S.horizon
 
-  no_meeting : None ≡ scanned S.sleds meets_in (S.horizon + 1) → first_conflict S (plan_of S rs) ≡ scan S.sleds collision (collide_in S (plan_of S rs)) S.horizon
+  -- what the scan for meetings finds, and else the first collision
+  after_meetings : (o : Option Pair) → o ≡ scanned S.sleds (meet_at S plan) (S.horizon + 1) → or_else (option_map (made S.sleds meeting (meet_at S plan) (suc S.horizon)) o) collisions ≡ first_conflict S plan
   unfolding first_conflict
-  no_meeting e =
+  after_meetings o e =
       let all : S.horizon + 1 ≡ suc S.horizon = omega arith in
-      let e' : None ≡ scanned S.sleds meets_in (suc S.horizon) = e ∙ ap (scanned S.sleds meets_in) all in
-      let found = ap (option_map (λ (q : Pair). meeting q.instant q.first q.second)) e' ∙ scan_is S.sleds meeting meets_in (meet_at S (plan_of S rs)) (suc S.horizon) meets_same in
-      ap (λ o. or_else o (scan S.sleds collision (collide_in S (plan_of S rs)) S.horizon)) (sym found)
+      ap (λ q. or_else (option_map (made S.sleds meeting (meet_at S plan) (suc S.horizon)) q) collisions) (e ∙ ap (scanned S.sleds (meet_at S plan)) all)
+      ∙ ap (λ q. or_else q collisions) (scan_is S.sleds meeting (meet_at S plan) (suc S.horizon))
 
-  pub collision_first : (o : Option Pair) → None ≡ scanned S.sleds meets_in (S.horizon + 1) → o ≡ scanned S.sleds collides_in S.horizon →
-      option_map (λ (q : Pair). collision q.instant q.first q.second) o ≡ first_conflict S (plan_of S rs)
+  pub meeting_first : (p : Pair) → Some p ≡ scanned S.sleds (meet_at S plan) (S.horizon + 1) → Some (meeting p.instant p.first p.second) ≡ first_conflict S plan
+  meeting_first p e = after_meetings (Some p) e
+
+  pub collision_first : (o : Option Pair) → None ≡ scanned S.sleds (meet_at S plan) (S.horizon + 1) → o ≡ scanned S.sleds (collide_in S plan) S.horizon →
+      option_map (λ (q : Pair). collision q.instant q.first q.second) o ≡ first_conflict S plan
   collision_first o none e =
       ap (option_map (λ (q : Pair). collision q.instant q.first q.second)) e
-      ∙ scan_is S.sleds collision collides_in (collide_in S (plan_of S rs)) S.horizon collides_same ∙ sym (no_meeting none)
+      ∙ scan_is S.sleds collision (collide_in S plan) S.horizon ∙ after_meetings None none

@@ -6,18 +6,16 @@ use Rattle.tree.specs.Plans.{place}
 use Rattle.tree.specs.Constraints as constraints
 use Rattle.tree.specs.Conflicts as conflicts
 use Rattle.tree.specs.Tree as tree
-use Rattle.engine.specs.declared.side.Side.{Side}
-use Rattle.engine.specs.declared.side.Side.TheVariants.{First, Second}
-use Rattle.engine.specs.Model.{Model, Keeps, set_of, search_of}
+use Rattle.engine.specs.Model.{Model, Keeps, search_of}
 use Rattle.engine.specs.Table.{plan_of, at_of}
 use Rattle.engine.proofs.Plans.{place_of}
 
 module _ (m : Model) (ok : Keeps m) where
-  set_same : (side : Side) (i j u v : ℕ) (arr : List Bool) → length arr ≡ 256 → ((w : ℕ) → w < 256 → get_or arr w false ≡ set_of m side i j u v w) → set_of m side i j u v ≡ (λ w. get_or arr w false)
-  set_same side i j u v arr size h =
-      let at : (w : ℕ) → set_of m side i j u v w ≡ get_or arr w false = λ w.
+  set_same : (set : ℕ → Bool) → ((w : ℕ) → set w ≡ true → w < 256) → (arr : List Bool) → length arr ≡ 256 → ((w : ℕ) → w < 256 → get_or arr w false ≡ set w) → set ≡ (λ w. get_or arr w false)
+  set_same set on arr size h =
+      let at : (w : ℕ) → set w ≡ get_or arr w false = λ w.
       ⊎_elim (λ (l : w < 256). sym (h w l))
-      (λ (l : 256 ≤ w). ⊎_elim (λ (e : set_of m side i j u v w ≡ true). absurd (omega (arith, ok.sets_on side i j u v w e))) (λ e. e ∙ sym (get_or_past arr w false (omega arith))) (cases_Bool (set_of m side i j u v w)))
+      (λ (l : 256 ≤ w). ⊎_elim (λ (e : set w ≡ true). absurd (omega (arith, on w e))) (λ e. e ∙ sym (get_or_past arr w false (omega arith))) (cases_Bool (set w)))
       (cases_lt w 256) in
       λ k w. at w k
 
@@ -26,19 +24,19 @@ module _ (m : Model) (ok : Keeps m) where
     place_is s t h l = ap (λ (p : List (List ℕ)). place p s t) same ∙ place_of m.setting rs s t h (omega arith)
 
     module _ (t i j : ℕ) (i<j : i < j) (j<n : j < m.setting.sleds) where
-      pub meeting_first : t ≤ m.setting.horizon → (arr : List Bool) → length arr ≡ 256 → ((w : ℕ) → w < 256 → get_or arr w false ≡ set_of m First i j (at_of rs i t) (at_of rs j t) w) →
+      pub meeting_first : t ≤ m.setting.horizon → (arr : List Bool) → length arr ≡ 256 → ((w : ℕ) → w < 256 → get_or arr w false ≡ m.first i j (at_of rs i t) (at_of rs j t) w) →
           tree.first_constraint (search_of m) x (conflicts.meeting t i j) ≡ record { sled = i; constraint = constraints.place_constraint t (λ w. get_or arr w false) }
       unfolding tree.first_constraint
       meeting_first l arr size h =
           ap₂ (λ (u v : ℕ). record { sled = i; constraint = constraints.place_constraint t (m.first i j u v) }) (place_is i t (omega arith) l) (place_is j t j<n l)
-          ∙ ap (λ (f : ℕ → Bool). record { sled = i; constraint = constraints.place_constraint t f }) (set_same First i j (at_of rs i t) (at_of rs j t) arr size h)
+          ∙ ap (λ (f : ℕ → Bool). record { sled = i; constraint = constraints.place_constraint t f }) (set_same (m.first i j (at_of rs i t) (at_of rs j t)) (ok.first_on i j (at_of rs i t) (at_of rs j t)) arr size h)
 
-      pub meeting_second : t ≤ m.setting.horizon → (arr : List Bool) → length arr ≡ 256 → ((w : ℕ) → w < 256 → get_or arr w false ≡ set_of m Second i j (at_of rs i t) (at_of rs j t) w) →
+      pub meeting_second : t ≤ m.setting.horizon → (arr : List Bool) → length arr ≡ 256 → ((w : ℕ) → w < 256 → get_or arr w false ≡ m.second i j (at_of rs i t) (at_of rs j t) w) →
           tree.second_constraint (search_of m) x (conflicts.meeting t i j) ≡ record { sled = j; constraint = constraints.place_constraint t (λ w. get_or arr w false) }
       unfolding tree.second_constraint
       meeting_second l arr size h =
           ap₂ (λ (u v : ℕ). record { sled = j; constraint = constraints.place_constraint t (m.second i j u v) }) (place_is i t (omega arith) l) (place_is j t j<n l)
-          ∙ ap (λ (f : ℕ → Bool). record { sled = j; constraint = constraints.place_constraint t f }) (set_same Second i j (at_of rs i t) (at_of rs j t) arr size h)
+          ∙ ap (λ (f : ℕ → Bool). record { sled = j; constraint = constraints.place_constraint t f }) (set_same (m.second i j (at_of rs i t) (at_of rs j t)) (ok.second_on i j (at_of rs i t) (at_of rs j t)) arr size h)
 
       pub collision_first : t < m.setting.horizon → tree.first_constraint (search_of m) x (conflicts.collision t i j) ≡ record { sled = i; constraint = constraints.move_constraint t (at_of rs i t) (at_of rs i (t + 1)) }
       unfolding tree.first_constraint

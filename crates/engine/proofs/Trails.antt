@@ -15,7 +15,7 @@ use Rattle.engine.specs.declared.node.Node.{Node}
 
 pub timely_fits : (S : Setting) (b : Constraint) → S.horizon ≤ 63 → Timely S b → FitsTable b
 timely_fits S (Places t set) h l = omega arith
-timely_fits S (Move t u v) h l = tt
+timely_fits S (Move m) h l = omega arith
 
 pub constraints_same : (s : ℕ) (b : SledConstraint) (tr : List constraints.SledConstraint) → b.sled ≡ s → constraints.constraints_on s (sled_constraint_of b ∷ tr) ≡ constraint_of b.constraint ∷ constraints.constraints_on s tr
 unfolding constraints.constraints_on
@@ -54,7 +54,7 @@ TimelyConstraint S b = InTime S b.constraint
 
 timely_in : (S : Setting) (b : Constraint) → Timely S b → InTime S (constraint_of b)
 timely_in S (Places t set) h = h
-timely_in S (Move t u v) h = h
+timely_in S (Move m) h = h
 
 own_timely : (S : Setting) (o : Option SledConstraint) (above : List constraints.SledConstraint) → LiesIn S o → (is_some o ≡ true → AllByRecursion (TimelyConstraint S) above) → AllByRecursion (TimelyConstraint S) (own o above)
 own_timely S None above h k = tt

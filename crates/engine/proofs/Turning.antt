@@ -95,5 +95,11 @@ root_tracks m limit r h = record { tracks = start r (tree.make_node (search_of m
     start (Some n) None h = absurd (h [])
     start (Some n) (Some x) h = push_tracks m [] [] none_yet n x (h (get_or [] n.parent blank).trail)
 
-pub engine_rests : (m : Model) (e : Engine) → tree.is_working (verdict_of e.verdict) ≡ false → Goes m e e (tree.turn (search_of m) e.limit)
-engine_rests m e over = record { goes = λ t f. turn_rests m e.limit (vec_items e.table.nodes) e.verdict t over f; same_limit = refl }
+over : (v : Verdict) → (v ≡ Working → ⊥) → tree.is_working (verdict_of v) ≡ false
+over Working h = absurd (h refl)
+over (Solved k) h = refl
+over Unsolvable h = refl
+over Full h = refl
+
+pub engine_rests : (m : Model) (e : Engine) → (e.verdict ≡ Working → ⊥) → Goes m e e (tree.turn (search_of m) e.limit)
+engine_rests m e h = record { goes = λ t f. turn_rests m e.limit (vec_items e.table.nodes) e.verdict t (over e.verdict h) f; same_limit = refl }

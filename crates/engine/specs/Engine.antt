@@ -1,7 +1,7 @@
 -- The engine and the theory's tree.
 use Rattle.std.specs.Prelude.{◌≡◌, ℕ, cond, List, [], Some, None, vec_items, Option, nat_lt}
 use Rattle.tree.specs.Setting.{Setting}
-use Rattle.tree.specs.Plans.{route, makespan}
+use Rattle.tree.specs.Plans.{Plan, route, makespan}
 use Rattle.tree.specs.Tree as tree
 use Rattle.tree.specs.Calls as calls
 use Rattle.engine.specs.Model.{Model, search_of}
@@ -27,6 +27,13 @@ pub record Answers (m : Model) (before after : Engine) (call : calls.Call) (answ
   pub told : (t : tree.Tree) → IsAt m before t → answer ≡ calls.reply (search_of m) before.limit t call
   pub goes : (t : tree.Tree) → IsAt m before t → IsAt m after (calls.after (search_of m) before.limit t call)
   pub same_limit : after.limit ≡ before.limit
+
+-- the routes of the node that solves the tree; none unless it is solved
+abbrev pub solution : List tree.Node → tree.Verdict → Option Plan
+solution nodes (tree.solved k) = Some (calls.routes_at nodes k)
+solution nodes tree.working = None
+solution nodes tree.none = None
+solution nodes tree.full = None
 
 -- the route of sled s in the node that solves the tree; none unless it is solved, and for a sled too high
 abbrev pub route_told : Setting → List tree.Node → tree.Verdict → (s : ℕ) → Option (List ℕ)

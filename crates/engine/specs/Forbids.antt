@@ -1,12 +1,13 @@
 -- Which steps a list of constraints forbids, and a table that tells it.
-use Rattle.std.specs.Prelude.{◌≡◌, ℕ, ◌+◌, ◌<◌, ◌≤◌, Bool, true, false, not, ◌&&◌, ◌||◌, List, [], ◌∷◌, length, take, ◌==◌, nat_lt, slice_index_or}
+use Rattle.std.specs.Prelude.{◌≡◌, ℕ, ◌+◌, ◌<◌, ◌≤◌, Bool, true, false, not, ◌&&◌, ◌||◌, List, [], ◌∷◌, take, ◌==◌, nat_lt, slice_index_or}
+use Rattle.std.specs.List.{list_any}
 use Rattle.tree.specs.Setting.{Setting}
 use Rattle.tree.specs.Constraints as constraints
 use Rattle.engine.specs.Model.{Model}
 use Rattle.engine.specs.declared.node.Constraint.{Constraint}
 use Rattle.engine.specs.declared.node.Constraint.TheVariants.{Places, Move}
+use Rattle.engine.specs.declared.node.Move as step
 use Rattle.engine.specs.declared.forbidden.Forbidden.{Forbidden}
-use Rattle.engine.specs.declared.forbidden.Move as step
 
 -- some constraint is on place p at instant t
 abbrev pub forbids_place : List constraints.Constraint → (t p : ℕ) → Bool
@@ -30,8 +31,7 @@ is_move m t p q = (m.instant == t && m.from == p) && m.to == q
 
 -- whether that move is in the list
 abbrev pub listed : List step.Move → (t p q : ℕ) → Bool
-listed [] t p q = false
-listed (m ∷ ms) t p q = is_move m t p q || listed ms t p q
+listed ms t p q = list_any (λ m. is_move m t p q) ms
 
 -- the moves of the table
 abbrev pub moves_of : Forbidden → (t p q : ℕ) → Bool
@@ -41,24 +41,16 @@ moves_of b t p q = listed (take b.count b.moves) t p q
 abbrev pub is_forbidden : Forbidden → (t p q : ℕ) → Bool
 is_forbidden b t p q = (marked b.places t p || marked b.places (t + 1) q) || (marked b.leaving t p && moves_of b t p q)
 
--- its rows are as many and as long as they should be
-pub record Whole (b : Forbidden) : Type 0 where
-  pub tall : length b.places ≡ 64
-  pub wide : (t : ℕ) → t < 64 → length (slice_index_or b.places t []) ≡ 256
-  pub leaving_tall : length b.leaving ≡ 64
-  pub leaving_wide : (t : ℕ) → t < 64 → length (slice_index_or b.leaving t []) ≡ 256
-  pub long : length b.moves ≡ 512
-
 -- the table and the rest of the constraints forbid what all of them do
 pub record Collected (b : Forbidden) (rest whole : List constraints.Constraint) : Type 0 where
   pub places : (t p : ℕ) → t < 64 → p < 256 → (marked b.places t p || forbids_place rest t p) ≡ forbids_place whole t p
   pub moves : (t p q : ℕ) → (moves_of b t p q || forbids_move rest t p q) ≡ forbids_move whole t p q
   pub flagged : (t p q : ℕ) → t < 64 → p < 256 → moves_of b t p q ≡ true → marked b.leaving t p ≡ true
 
--- a constraint on places has its row in the table
+-- a constraint has its row in the table
 abbrev pub FitsTable : Constraint → Type 0
 FitsTable (Places t set) = t < 64
-FitsTable (Move t u v) = Unit {0}
+FitsTable (Move m) = m.instant < 64
 
 -- the instants of a constraint lie within the horizon
 abbrev pub InTime : Setting → constraints.Constraint → Type 0

@@ -4,8 +4,6 @@ use Rattle.grid.specs.Board.{Step}
 use Rattle.tree.specs.Lists.{Exactly}
 use Rattle.tree.specs.Setting.{Setting, SettingTerms}
 use Rattle.tree.specs.Search.{Rule, RuleTerms, Search, planner}
-use Rattle.engine.specs.declared.side.Side.{Side}
-use Rattle.engine.specs.declared.side.Side.TheVariants.{First, Second}
 
 -- a setting; whether sled s may go from u to v, a step away, in step t; and the two sets of places for sleds i at u and j at v that meet
 pub record Model : Type 0 where
@@ -13,11 +11,6 @@ pub record Model : Type 0 where
   pub allowed : (s t u v : ℕ) → Bool
   pub first : (i j u v w : ℕ) → Bool
   pub second : (i j u v w : ℕ) → Bool
-
--- the set of a side
-abbrev pub set_of : Model → Side → (i j u v w : ℕ) → Bool
-set_of m First = m.first
-set_of m Second = m.second
 
 -- the sets as a splitting rule, which looks neither at the trail nor at the instant
 abbrev pub rule_of : Model → Rule
@@ -38,4 +31,5 @@ pub record Keeps (m : Model) : Type 0 where
   -- the setting's steps are the steps of the board that are allowed
   pub steps : (s t u v : ℕ) → Exactly (m.setting.step s t u v ≡ true) (Step u v × (m.allowed s t u v ≡ true))
   -- the sets hold places of the board
-  pub sets_on : (side : Side) (i j u v w : ℕ) → set_of m side i j u v w ≡ true → w < 256
+  pub first_on : (i j u v w : ℕ) → m.first i j u v w ≡ true → w < 256
+  pub second_on : (i j u v w : ℕ) → m.second i j u v w ≡ true → w < 256

@@ -18,7 +18,7 @@ use Rattle.engine.specs.declared.conflict.Conflict.TheVariants.{Meeting, Collisi
 -- the constraint of a record, as the theory has it
 abbrev pub constraint_of : Constraint → constraints.Constraint
 constraint_of (Places t set) = constraints.place_constraint t (λ w. get_or set w false)
-constraint_of (Move t u v) = constraints.move_constraint t u v
+constraint_of (Move m) = constraints.move_constraint m.instant m.from m.to
 
 abbrev pub sled_constraint_of : SledConstraint → constraints.SledConstraint
 sled_constraint_of b = record { sled = b.sled; constraint = constraint_of b.constraint }
@@ -46,7 +46,7 @@ conflict_of (Collision p) = conflicts.collision p.instant p.first p.second
 -- the instants of a constraint lie within the horizon
 abbrev pub Timely : Setting → Constraint → Type 0
 Timely S (Places t set) = t ≤ S.horizon
-Timely S (Move t u v) = t < S.horizon
+Timely S (Move m) = m.instant < S.horizon
 
 -- so do those of a record, and its sled is one of the setting's
 abbrev pub LiesIn : Setting → Option SledConstraint → Type 0

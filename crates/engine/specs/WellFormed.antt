@@ -8,10 +8,10 @@ use Rattle.engine.specs.declared.node.Verdict.{Verdict}
 use Rattle.engine.specs.declared.node.Verdict.TheVariants.{Working, Solved, Unsolvable, Full}
 use Rattle.engine.specs.Table.{empty}
 
--- a constraint on places lies within the instants
+-- a constraint lies within the instants
 abbrev pub is_in_table : Constraint → Bool
 is_in_table (Places t set) = nat_lt t 64
-is_in_table (Move t u v) = true
+is_in_table (Move m) = nat_lt m.instant 64
 
 -- a node with a constraint has a parent of lower number, and its constraint lies within the instants
 abbrev pub well_formed_constraint : ℕ → ℕ → Option SledConstraint → Bool

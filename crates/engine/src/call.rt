@@ -1,7 +1,7 @@
 // What a search is asked and what it answers.
 
 // The verdicts as they are told.
-#[derive(Clone, Copy)]
+#[derive(Clone, Copy, PartialEq, Debug)]
 pub enum Status {
     Working,
     Solved,
@@ -10,7 +10,7 @@ pub enum Status {
 }
 
 // The search has ended; no turns are asked for; it is not solved; the sled or the instant is too high.
-#[derive(Clone, Copy)]
+#[derive(Clone, Copy, PartialEq, Debug)]
 pub enum Refusal {
     Ended,
     NoTurns,
@@ -19,19 +19,19 @@ pub enum Refusal {
 }
 
 // Make so many turns; tell the bound; tell the verdict; tell the place of a sled at an instant.
-#[derive(Clone, Copy)]
+#[derive(Clone, Copy, PartialEq, Debug)]
 pub enum Call {
     Advance(u32),
     Bound,
     Verdict,
-    Place(usize, usize),
+    Place { sled: usize, instant: usize },
 }
 
-#[derive(Clone, Copy)]
+// What each of these calls answers.
+#[derive(Clone, Copy, PartialEq, Debug)]
 pub enum Answer {
-    Made(u32),
+    Advanced(Result<u32, Refusal>),
     Bounded(Option<u16>),
-    Status(Status),
-    Stands(u8),
-    Refused(Refusal),
+    Judged(Status),
+    Placed(Result<u8, Refusal>),
 }

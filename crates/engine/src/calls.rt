@@ -4,12 +4,13 @@ ghost use Rattle.std.specs.Option.{option_map};
 ghost use Rattle.tree.specs.Tree as tree;
 ghost use Rattle.tree.specs.Calls as calls;
 ghost use Rattle.engine.specs.Model.{Model};
-ghost use Rattle.engine.specs.Engine.{IsAt, Answers, route_told, makespan_told};
+ghost use Rattle.engine.specs.Table.{plan_of};
+ghost use Rattle.engine.specs.Engine.{IsAt, Answers, solution, route_told, makespan_told};
 ghost use Rattle.engine.specs.Calls.{status_of, call_of, answer_of, told_of};
 
 use super::call::{Answer, Call, Refusal, Status};
 use super::cost::greatest_cost;
-use super::node::{Route, Verdict};
+use super::node::{Node, Route, Verdict};
 use super::problem::Problem;
 use super::state::Engine;
 
@@ -18,20 +19,24 @@ impl Engine {
     pub fn bound(&self) -> Option<u16>
         ensures { (m : Model) (t : tree.Tree) → IsAt m self.now t → result ≡ tree.bound m.setting t }
     {
-        match self.table.cheapest() {
-            Some(number) => Some(self.table.records()[number as usize].sum),
-            None => None,
-        }
+        let number = self.table.cheapest()?;
+        Some(self.table.records()[number as usize].sum)
     }
 
     pub fn verdict(&self) -> Status
         ensures { (m : Model) (t : tree.Tree) → IsAt m self.now t → status_of result ≡ calls.status_of t.verdict }
     {
-        match self.verdict {
-            Verdict::Working => Status::Working,
-            Verdict::Solved(_) => Status::Solved,
-            Verdict::Unsolvable => Status::Unsolvable,
-            Verdict::Full => Status::Full,
+        Status::from(self.verdict)
+    }
+
+    // The node that solves the search, if there is one.
+    fn solved(&self) -> Option<&Node>
+        ensures { (m : Model) (t : tree.Tree) → IsAt m self.now t → option_map (λ node. plan_of m.setting node.now.routes) result ≡ solution t.nodes t.verdict }
+    {
+        if let Verdict::Solved(number) = self.verdict {
+            Some(&self.table.records()[number as usize])
+        } else {
+            None
         }
     }
 
@@ -39,17 +44,13 @@ impl Engine {
     pub fn place<P: Problem>(&self, problem: &P, sled: usize, instant: usize) -> Result<u8, Refusal>
         ensures { (t : tree.Tree) → IsAt (P.Problem.model problem.now) self.now t → told_of calls.stands result ≡ calls.placed (P.Problem.model problem.now).setting t.nodes t.verdict sled instant }
     {
-        match self.verdict {
-            Verdict::Solved(number) => {
-                if sled < problem.sleds() && instant <= problem.horizon().steps as usize {
-                    Ok(self.table.records()[number as usize].routes[sled][instant])
-                } else {
-                    Err(Refusal::TooHigh)
-                }
-            }
-            Verdict::Working => Err(Refusal::NotSolved),
-            Verdict::Unsolvable => Err(Refusal::NotSolved),
-            Verdict::Full => Err(Refusal::NotSolved),
+        let Some(node) = self.solved() else {
+            return Err(Refusal::NotSolved);
+        };
+        if sled < problem.sleds() && instant <= problem.horizon().steps as usize {
+            Ok(node.routes[sled][instant])
+        } else {
+            Err(Refusal::TooHigh)
         }
     }
 
@@ -57,17 +58,11 @@ impl Engine {
     pub fn route<P: Problem>(&self, problem: &P, sled: usize) -> Option<Route>
         ensures { (t : tree.Tree) → IsAt (P.Problem.model problem.now) self.now t → option_map (take (suc (P.Problem.model problem.now).setting.horizon)) result ≡ route_told (P.Problem.model problem.now).setting t.nodes t.verdict sled }
     {
-        match self.verdict {
-            Verdict::Solved(number) => {
-                if sled < problem.sleds() {
-                    Some(self.table.records()[number as usize].routes[sled])
-                } else {
-                    None
-                }
-            }
-            Verdict::Working => None,
-            Verdict::Unsolvable => None,
-            Verdict::Full => None,
+        let node = self.solved()?;
+        if sled < problem.sleds() {
+            Some(node.routes[sled])
+        } else {
+            None
         }
     }
 
@@ -75,15 +70,8 @@ impl Engine {
     pub fn makespan<P: Problem>(&self, problem: &P) -> Option<u8>
         ensures { (t : tree.Tree) → IsAt (P.Problem.model problem.now) self.now t → result ≡ makespan_told (P.Problem.model problem.now).setting t.nodes t.verdict }
     {
-        match self.verdict {
-            Verdict::Solved(number) => Some(greatest_cost(
-                problem,
-                &self.table.records()[number as usize].routes,
-            )),
-            Verdict::Working => None,
-            Verdict::Unsolvable => None,
-            Verdict::Full => None,
-        }
+        let node = self.solved()?;
+        Some(greatest_cost(problem, &node.routes))
     }
 
     // Makes turns until there are as many as asked or the search ends, and answers how many it made.
@@ -104,16 +92,10 @@ impl Engine {
         ensures { Answers (P.Problem.model problem.now) self.old self.new (call_of call) (answer_of result) }
     {
         match call {
-            Call::Advance(count) => match self.advance(problem, count) {
-                Ok(made) => Answer::Made(made),
-                Err(refusal) => Answer::Refused(refusal),
-            },
+            Call::Advance(count) => Answer::Advanced(self.advance(problem, count)),
             Call::Bound => Answer::Bounded(self.bound()),
-            Call::Verdict => Answer::Status(self.verdict()),
-            Call::Place(sled, instant) => match self.place(problem, sled, instant) {
-                Ok(place) => Answer::Stands(place),
-                Err(refusal) => Answer::Refused(refusal),
-            },
+            Call::Verdict => Answer::Judged(self.verdict()),
+            Call::Place { sled, instant } => Answer::Placed(self.place(problem, sled, instant)),
         }
     }
 }

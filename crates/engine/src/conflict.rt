@@ -1,78 +1,59 @@
 // The first conflict of a node's routes.
 ghost use Rattle.std.specs.Prelude.{◌≡◌, ◌+◌};
 ghost use Rattle.std.specs.Option.{option_map};
+ghost use Rattle.tree.specs.Plans.{meet_at, collide_in};
 ghost use Rattle.tree.specs.Conflicts.{first_conflict};
-ghost use Rattle.engine.specs.Table.{plan_of, conflict_of, at_of};
+ghost use Rattle.engine.specs.Scans.{scanned};
+ghost use Rattle.engine.specs.Table.{plan_of, conflict_of};
 
 use super::node::{MAX_SLEDS, Route};
 use super::problem::Problem;
-use super::scan::{Pair, PairTest, first_pair};
+use super::scan::{Pair, first_pair};
 
 // Two sleds that meet at an instant, or collide in the step that leaves it.
-#[derive(Clone, Copy)]
+#[derive(Clone, Copy, PartialEq, Debug)]
 pub(crate) enum Conflict {
     Meeting(Pair),
     Collision(Pair),
 }
 
-// Sleds that meet.
-#[derive(Drop)]
-struct Meetings<'a, P> {
-    problem: &'a P,
-    routes: &'a [Route; MAX_SLEDS],
+// The first two sleds that meet at an instant up to the horizon.
+fn first_meeting<P: Problem>(problem: &P, routes: &[Route; MAX_SLEDS]) -> Option<Pair>
+    ensures { result ≡ scanned (P.Problem.model problem.now).setting.sleds (meet_at (P.Problem.model problem.now).setting (plan_of (P.Problem.model problem.now).setting routes.now)) ((P.Problem.model problem.now).setting.horizon + 1) }
+{
+    let instants = problem.horizon().steps + 1;
+    first_pair(problem.sleds(), instants, |instant, first, second| {
+        let now = instant as usize;
+        problem.meets(first, second, routes[first][now], routes[second][now])
+    })
 }
 
-impl<'a, P: Problem> PairTest for Meetings<'a, P> {
-    ghost test = { λ x t i j. (P.Problem.model x.problem.now).setting.meets i j (at_of x.routes.now i t) (at_of x.routes.now j t) };
-
-    ghost span = { λ x. 64 };
-
-    fn holds(&self, instant: u8, first: usize, second: usize) -> bool {
-        let u = self.routes[first][instant as usize];
-        let v = self.routes[second][instant as usize];
-        self.problem.meets(first, second, u, v)
-    }
-}
-
-// Sleds that collide in a step.
-#[derive(Drop)]
-struct Collisions<'a, P> {
-    problem: &'a P,
-    routes: &'a [Route; MAX_SLEDS],
-}
-
-impl<'a, P: Problem> PairTest for Collisions<'a, P> {
-    ghost test = { λ x t i j. (P.Problem.model x.problem.now).setting.collides i j (at_of x.routes.now i t) (at_of x.routes.now i (t + 1)) (at_of x.routes.now j t) (at_of x.routes.now j (t + 1)) };
-
-    ghost span = { λ x. 63 };
-
-    fn holds(&self, instant: u8, first: usize, second: usize) -> bool {
+// The first two sleds that collide in a step before the horizon.
+fn first_collision<P: Problem>(problem: &P, routes: &[Route; MAX_SLEDS]) -> Option<Pair>
+    ensures { result ≡ scanned (P.Problem.model problem.now).setting.sleds (collide_in (P.Problem.model problem.now).setting (plan_of (P.Problem.model problem.now).setting routes.now)) (P.Problem.model problem.now).setting.horizon }
+{
+    let steps = problem.horizon().steps;
+    first_pair(problem.sleds(), steps, |instant, first, second| {
         let before = instant as usize;
         let after = before + 1;
-        let u = self.routes[first][before];
-        let u2 = self.routes[first][after];
-        let v = self.routes[second][before];
-        let v2 = self.routes[second][after];
-        self.problem.collides(first, second, u, u2, v, v2)
-    }
+        let u = routes[first][before];
+        let u2 = routes[first][after];
+        let v = routes[second][before];
+        let v2 = routes[second][after];
+        problem.collides(first, second, u, u2, v, v2)
+    })
 }
 
 // The first conflict: instant by instant the pairs that meet, then step by step those that collide.
-pub(crate) fn first_conflict<'a, P: Problem>(
-    problem: &'a P,
-    routes: &'a [Route; MAX_SLEDS],
+pub(crate) fn first_conflict<P: Problem>(
+    problem: &P,
+    routes: &[Route; MAX_SLEDS],
 ) -> Option<Conflict>
     ensures { option_map conflict_of result ≡ first_conflict (P.Problem.model problem.now).setting (plan_of (P.Problem.model problem.now).setting routes.now) }
 {
-    let sleds = problem.sleds();
-    let steps = problem.horizon().steps;
-    let meetings = Meetings { problem, routes };
-    if let Some(pair) = first_pair(&meetings, sleds, steps + 1) {
+    if let Some(pair) = first_meeting(problem, routes) {
         return Some(Conflict::Meeting(pair));
     }
-    let collisions = Collisions { problem, routes };
-    match first_pair(&collisions, sleds, steps) {
-        Some(pair) => Some(Conflict::Collision(pair)),
-        None => None,
-    }
+    let pair = first_collision(problem, routes)?;
+    Some(Conflict::Collision(pair))
 }

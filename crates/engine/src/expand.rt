@@ -1,8 +1,7 @@
 // A node gives way to its children.
-ghost use Rattle.std.specs.Prelude.{◌≡◌, ◌+◌, ◌<◌, ◌≤◌, List, vec_len, vec_capacity, slice_index_or};
+ghost use Rattle.std.specs.Prelude.{◌+◌, ◌<◌, ◌≤◌, List, vec_len, slice_index_or};
 ghost use Rattle.tree.specs.Conflicts as conflicts;
 ghost use Rattle.tree.specs.Tree as tree;
-ghost use Rattle.engine.specs.WellFormed.{AllWellFormed};
 ghost use Rattle.engine.specs.Model.{search_of};
 ghost use Rattle.engine.specs.Table.{plan_of, conflict_of, Tracks, empty, found_of};
 
@@ -15,17 +14,13 @@ use super::table::NodeTable;
 impl NodeTable {
     // Closes a node and makes its children, the lower sled's first.
     pub(crate) fn expand<P: Problem>(&mut self, problem: &P, number: u16, conflict: Conflict)
-        requires room { (number < vec_len self.old.nodes) × ((vec_len self.old.nodes + 2 ≤ vec_capacity self.old.nodes) × (vec_len self.old.nodes ≤ 511)) }
-        requires formed { AllWellFormed self.old.nodes.items }
+        requires room { (number < vec_len self.old.nodes) × (vec_len self.old.nodes + 2 ≤ 512) }
         requires real { conflicts.HasConflict (P.Problem.model problem.now).setting (plan_of (P.Problem.model problem.now).setting (slice_index_or self.old.nodes.items number empty).routes) (conflict_of conflict) }
-        ensures formed { AllWellFormed self.new.nodes.items }
-        ensures tracks { (xs : List tree.Node) → Tracks (P.Problem.model problem.now) self.old.nodes.items xs → Tracks (P.Problem.model problem.now) self.new.nodes.items (tree.expand (search_of (P.Problem.model problem.now)) xs (found_of xs number) (conflict_of conflict)) }
-        ensures len { vec_len self.new.nodes ≤ vec_len self.old.nodes + 2 }
-        ensures capacity { vec_capacity self.new.nodes ≡ vec_capacity self.old.nodes }
+        ensures { (xs : List tree.Node) → Tracks (P.Problem.model problem.now) self.old.nodes.items xs → Tracks (P.Problem.model problem.now) self.new.nodes.items (tree.expand (search_of (P.Problem.model problem.now)) xs (found_of xs number) (conflict_of conflict)) }
     {
         let (first, second) = split(problem, &self.records()[number as usize].routes, conflict);
-        let lower = child(problem, self.records(), number, first);
-        let higher = child(problem, self.records(), number, second);
+        let lower = child(problem, self, number, first);
+        let higher = child(problem, self, number, second);
         self.close(number);
         self.fill(lower);
         self.fill(higher);

@@ -1,16 +1,8 @@
 // What a trail forbids one sled, collected into a table.
 ghost use Rattle.std.specs.Prelude.{◌≤◌};
 
-use super::node::PlaceSet;
+use super::node::{Move, PlaceSet};
 use walk::horizon::MAX_INSTANTS;
-
-// One move in the step that leaves an instant.
-#[derive(Clone, Copy)]
-pub(crate) struct Move {
-    pub(crate) instant: u8,
-    pub(crate) from: u8,
-    pub(crate) to: u8,
-}
 
 // The places forbidden at each instant; the places from which some move is forbidden; and these moves, of which the first `count`
 // count.

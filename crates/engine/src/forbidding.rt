@@ -1,30 +1,30 @@
 // Filling and asking the table of what is forbidden.
-ghost use Rattle.std.specs.Prelude.{◌≡◌, ℕ, ◌+◌, ◌<◌, ◌≤◌, true, false, ◌&&◌, ◌||◌, List, ◌∷◌, length, take, ◌==◌, slice_index_or};
+ghost use Rattle.std.specs.Prelude.{◌≡◌, ℕ, ◌+◌, ◌<◌, ◌≤◌, false, ◌&&◌, ◌||◌, List, ◌∷◌, take, ◌==◌, slice_index_or};
 ghost use Rattle.tree.specs.Constraints as constraints;
 ghost use Rattle.engine.specs.Table.{constraint_of};
-ghost use Rattle.engine.specs.Forbids.{marked, listed, is_forbidden, Whole, Collected, FitsTable};
+ghost use Rattle.engine.specs.Forbids.{marked, listed, is_forbidden, Collected, FitsTable};
 
-use super::forbidden::{Forbidden, Move};
-use super::node::Constraint;
+use super::forbidden::Forbidden;
+use super::node::{Constraint, Move, PlaceSet};
 use grid::place::BOARD_PLACES;
+use std::array;
 use walk::horizon::MAX_INSTANTS;
 
-// Marks in a row what is marked in the other.
-fn join(row: &mut [bool], other: &[bool])
-    requires { (256 ≤ length row.old) × (256 ≤ length other.now) }
-    ensures { (p : ℕ) → p < 256 → slice_index_or row.new p false ≡ (slice_index_or row.old p false || slice_index_or other.now p false) }
+// The places that are in one set or in the other.
+fn union(one: &PlaceSet, other: &PlaceSet) -> PlaceSet
+    ensures { (p : ℕ) → p < 256 → slice_index_or result p false ≡ (slice_index_or one.now p false || slice_index_or other.now p false) }
 {
-    for place in 0..BOARD_PLACES {
-        if other[place] {
-            row[place] = true;
-        }
-    }
+    array::from_fn(
+        |place|
+            requires { place < 256 }
+            ensures { result ≡ (slice_index_or one.entry.now place false || slice_index_or other.entry.now place false) }
+        { one[place] || other[place] },
+    )
 }
 
 impl Forbidden {
     // Nothing is forbidden.
     pub(crate) fn nothing() -> Forbidden
-        ensures whole { Whole result }
         ensures empty { (bs : List constraints.Constraint) → Collected result bs bs }
         ensures count { result.count ≡ 0 }
     {
@@ -42,59 +42,48 @@ impl Forbidden {
     }
 
     // Whether a move is in the list.
-    fn has_move(&self, instant: u8, from: u8, to: u8) -> bool
-        ensures { result ≡ listed (take self.now.count self.now.moves) instant from to }
+    fn has_move(&self, step: Move) -> bool
+        ensures { result ≡ listed (take self.now.count self.now.moves) step.instant step.from step.to }
     {
-        for number in 0..self.count {
-            let step = self.moves[number];
-            if step.instant == instant && step.from == from && step.to == to {
-                return true;
-            }
-        }
-        false
+        self.moves[..self.count].contains(&step)
     }
 
     // Whether a step is forbidden. The list of moves is looked through only where some move from that place is in it.
-    pub(crate) fn forbids(&self, instant: u8, from: u8, to: u8) -> bool
-        requires { instant < 63 }
-        ensures { result ≡ is_forbidden self.now instant from to }
+    pub(crate) fn forbids(&self, step: Move) -> bool
+        requires { step.instant < 63 }
+        ensures { result ≡ is_forbidden self.now step.instant step.from step.to }
     {
-        let before = instant as usize;
-        self.places[before][from as usize]
-            || self.places[before + 1][to as usize]
-            || (self.leaving[before][from as usize] && self.has_move(instant, from, to))
+        let before = step.instant as usize;
+        self.places[before][step.from as usize]
+            || self.places[before + 1][step.to as usize]
+            || (self.leaving[before][step.from as usize] && self.has_move(step))
     }
 
     // Marks the place that a forbidden move leaves.
-    fn mark_leaving(&mut self, instant: u8, from: u8)
-        requires { Whole self.old }
-        ensures whole { Whole self.new }
-        ensures marks { (t p : ℕ) → t < 64 → p < 256 → marked self.new.leaving t p ≡ (marked self.old.leaving t p || (instant == t && from == p)) }
+    fn mark_leaving(&mut self, step: Move)
+        requires { step.instant < 64 }
+        ensures marks { (t p : ℕ) → t < 64 → p < 256 → marked self.new.leaving t p ≡ (marked self.old.leaving t p || (step.instant == t && step.from == p)) }
         ensures same { (self.new.places ≡ self.old.places) × ((self.new.moves ≡ self.old.moves) × (self.new.count ≡ self.old.count)) }
     {
-        if (instant as usize) < MAX_INSTANTS {
-            self.leaving[instant as usize][from as usize] = true;
-        }
+        let row = &mut self.leaving[step.instant as usize];
+        row[step.from as usize] = true;
     }
 
     // Forbids more.
     pub(crate) fn add(&mut self, constraint: Constraint)
-        requires whole { Whole self.old }
         requires room { self.old.count < 512 }
         requires fits { FitsTable constraint }
-        ensures whole { Whole self.new }
         ensures count { self.new.count ≤ self.old.count + 1 }
         ensures added { (rest all : List constraints.Constraint) → Collected self.old (constraint_of constraint ∷ rest) all → Collected self.new rest all }
     {
         match constraint {
             Constraint::Places(instant, set) => {
-                let mut row = self.places[instant as usize];
-                join(&mut row, &set);
-                self.places[instant as usize] = row;
+                let row = self.places[instant as usize];
+                self.places[instant as usize] = union(&row, &set);
             }
-            Constraint::Move(instant, from, to) => {
-                self.mark_leaving(instant, from);
-                self.moves[self.count] = Move { instant, from, to };
+            Constraint::Move(step) => {
+                self.mark_leaving(step);
+                self.moves[self.count] = step;
                 self.count += 1;
             }
         }

@@ -1,9 +1,9 @@
 // Making nodes.
-ghost use Rattle.std.specs.Prelude.{◌≡◌, ℕ, ◌<◌, ◌≤◌, List, [], ◌∷◌, length, Some, slice_index_or};
+ghost use Rattle.std.specs.Prelude.{◌≡◌, ℕ, ◌<◌, List, [], ◌∷◌, Some, slice_index_or, vec_len};
 ghost use Rattle.std.specs.Option.{option_map};
 ghost use Rattle.tree.specs.Constraints as constraints;
 ghost use Rattle.tree.specs.Tree as tree;
-ghost use Rattle.engine.specs.WellFormed.{AllWellFormed, MadeWellFormed};
+ghost use Rattle.engine.specs.WellFormed.{MadeWellFormed};
 ghost use Rattle.engine.specs.Model.{search_of};
 ghost use Rattle.engine.specs.Table.{plan_of, sled_constraint_of, LiesIn, Tracks, MadeAs, blank};
 
@@ -12,6 +12,7 @@ use super::forbidden::Forbidden;
 use super::node::{MAX_SLEDS, Node, Route, SledConstraint};
 use super::plan::plan_sled;
 use super::problem::Problem;
+use super::table::NodeTable;
 use super::trail::collect;
 use walk::horizon::MAX_INSTANTS;
 
@@ -21,6 +22,7 @@ fn plan_all<P: Problem>(problem: &P) -> Option<[Route; MAX_SLEDS]>
 {
     let forbidden = Forbidden::nothing();
     let mut routes = [[0; MAX_INSTANTS]; MAX_SLEDS];
+    // By number: of what a loop writes through `iter_mut` only the length is known after it.
     for sled in 0..problem.sleds() {
         let route = plan_sled(problem, &forbidden, sled)?;
         routes[sled] = route;
@@ -47,18 +49,18 @@ pub(crate) fn root<P: Problem>(problem: &P) -> Option<Node>
 // A child of a node under one more constraint, which is not made where the constrained sled has no route.
 pub(crate) fn child<P: Problem>(
     problem: &P,
-    nodes: &[Node],
+    table: &NodeTable,
     number: u16,
     own: SledConstraint,
 ) -> Option<Node>
-    requires room { (number < length nodes.now) × ((length nodes.now ≤ 511) × (LiesIn (P.Problem.model problem.now).setting (Some own))) }
-    requires formed { AllWellFormed nodes.now }
+    requires known { number < vec_len table.now.nodes }
+    requires lies { LiesIn (P.Problem.model problem.now).setting (Some own) }
     ensures formed { (k : ℕ) → number < k → MadeWellFormed k result }
-    ensures as_made { (xs : List tree.Node) (k : ℕ) → Tracks (P.Problem.model problem.now) nodes.now xs → number < k → MadeAs (P.Problem.model problem.now) (slice_index_or xs number blank).trail k result (tree.make_node (search_of (P.Problem.model problem.now)) number (sled_constraint_of own ∷ (slice_index_or xs number blank).trail)) }
+    ensures as_made { (xs : List tree.Node) (k : ℕ) → Tracks (P.Problem.model problem.now) table.now.nodes.items xs → number < k → MadeAs (P.Problem.model problem.now) (slice_index_or xs number blank).trail k result (tree.make_node (search_of (P.Problem.model problem.now)) number (sled_constraint_of own ∷ (slice_index_or xs number blank).trail)) }
 {
-    let forbidden = collect(nodes, number as usize, own);
+    let forbidden = collect(table, number as usize, own);
     let route = plan_sled(problem, &forbidden, own.sled)?;
-    let mut routes = nodes[number as usize].routes;
+    let mut routes = table.records()[number as usize].routes;
     routes[own.sled] = route;
     let sum = total_cost(problem, &routes);
     Some(Node {

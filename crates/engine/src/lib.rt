@@ -14,10 +14,10 @@ mod plan;
 pub mod problem;
 mod replay;
 mod scan;
-pub mod side;
 mod split;
 mod state;
 mod table;
+mod told;
 mod trail;
 mod turns;
 

@@ -13,11 +13,26 @@ pub type Route = [u8; MAX_INSTANTS];
 // Whether each place is in a set.
 pub type PlaceSet = [bool; BOARD_PLACES];
 
-// What a node forbids one sled: the places of a set at an instant, or one move in the step that leaves an instant.
+// The places that the two sleds of a meeting are kept from: the one of lower number, and the other.
+#[derive(Clone, Copy)]
+pub struct Sets {
+    pub lower: PlaceSet,
+    pub higher: PlaceSet,
+}
+
+// One move in the step that leaves an instant.
+#[derive(Clone, Copy, PartialEq, Debug)]
+pub(crate) struct Move {
+    pub(crate) instant: u8,
+    pub(crate) from: u8,
+    pub(crate) to: u8,
+}
+
+// What a node forbids one sled: the places of a set at an instant, or one move.
 #[derive(Clone, Copy)]
 pub(crate) enum Constraint {
     Places(u8, PlaceSet),
-    Move(u8, u8, u8),
+    Move(Move),
 }
 
 #[derive(Clone, Copy)]

@@ -7,7 +7,7 @@ ghost use Rattle.tree.specs.Choice.{first_choice};
 ghost use Rattle.engine.specs.Forbids.{permitted, Collected, InTime};
 
 use super::forbidden::Forbidden;
-use super::node::Route;
+use super::node::{Move, Route};
 use super::problem::Problem;
 use walk::horizon::MAX_INSTANTS;
 use walk::route::first_route;
@@ -27,7 +27,7 @@ impl<'a, P: Problem> Steps<bool> for SledSteps<'a, P> {
     fn weight(&self, instant: u8, from: u8, to: u8) -> bool {
         (instant as usize) < MAX_INSTANTS - 1
             && self.problem.allows(self.sled, instant, from, to)
-            && !self.forbidden.forbids(instant, from, to)
+            && !self.forbidden.forbids(Move { instant, from, to })
     }
 }
 
@@ -47,8 +47,6 @@ pub(crate) fn plan_sled<'a, P: Problem>(
     };
     let start = problem.start(sled);
     let goal = problem.goal(sled);
-    match first_route(&steps, start, goal, problem.horizon()) {
-        Some(found) => Some(found.places),
-        None => None,
-    }
+    let found = first_route(&steps, start, goal, problem.horizon())?;
+    Some(found.places)
 }

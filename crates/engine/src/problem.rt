@@ -1,9 +1,8 @@
 // What the engine asks of a problem.
-ghost use Rattle.std.specs.Prelude.{◌≡◌, ℕ, ◌<◌, false, length, slice_index_or};
-ghost use Rattle.engine.specs.Model.{Model, Keeps, set_of};
+ghost use Rattle.std.specs.Prelude.{◌≡◌, ℕ, ◌<◌, false, slice_index_or};
+ghost use Rattle.engine.specs.Model.{Model, Keeps};
 
-use super::node::PlaceSet;
-use super::side::Side;
+use super::node::Sets;
 use walk::horizon::Horizon;
 
 // Sleds, places and instants are told by their numbers. Whatever the numbers, there is an answer.
@@ -35,10 +34,10 @@ pub trait Problem {
     fn collides(&self, i: usize, j: usize, u: u8, u2: u8, v: u8, v2: u8) -> bool
         ensures { result ≡ (model self.now).setting.collides i j u u2 v v2 };
 
-    // Where sled i at u and sled j at v meet: the set of places of a side.
-    fn splits(&self, side: Side, i: usize, j: usize, u: u8, v: u8) -> PlaceSet
-        ensures places { (w : ℕ) → w < 256 → slice_index_or result w false ≡ set_of (model self.now) side i j u v w }
-        ensures size { length result ≡ 256 };
+    // Where sled i at u and sled j at v meet: the places that each of them is to be kept from.
+    fn splits(&self, i: usize, j: usize, u: u8, v: u8) -> Sets
+        ensures lower { (w : ℕ) → w < 256 → slice_index_or result.lower w false ≡ (model self.now).first i j u v w }
+        ensures higher { (w : ℕ) → w < 256 → slice_index_or result.higher w false ≡ (model self.now).second i j u v w };
 
     ghost keeps: { (p : Self) → Keeps (model p) };
 }

@@ -24,6 +24,7 @@ impl Engine {
     {
         self.open(problem, limit);
         let count = calls.len().min(answers.len());
+        // By number: of what a loop writes through `iter_mut` only the length is known after it.
         for number in 0..count {
             let call = calls[number];
             answers[number] = self.answer(problem, call);

@@ -1,34 +1,30 @@
 // Pairs of sleds, instant by instant.
-ghost use Rattle.std.specs.Prelude.{◌≡◌, ℕ, ◌<◌, ◌≤◌, Bool};
-ghost use Rattle.engine.specs.Scans.{at_sled, at_time, scanned};
+ghost use Rattle.std.specs.Prelude.{◌≡◌, ℕ, ◌<◌, Bool};
+ghost use Rattle.engine.specs.Scans.{Pairs, Decides, at_sled, at_time, scanned};
 
 // An instant and two sleds, the lower first.
-#[derive(Clone, Copy)]
+#[derive(Clone, Copy, PartialEq, Debug)]
 pub(crate) struct Pair {
     pub(crate) instant: u8,
     pub(crate) first: usize,
     pub(crate) second: usize,
 }
 
-// What is looked for among the pairs of sleds.
-pub(crate) trait PairTest {
-    ghost test: { Self → ℕ → ℕ → ℕ → Bool };
-
-    // how many instants can be asked about
-    ghost span: { Self → ℕ };
-
-    fn holds(&self, instant: u8, first: usize, second: usize) -> bool
-        requires { (instant < span self.now) × ((first < 6) × (second < 6)) }
-        ensures { result ≡ test self.now instant first second };
-}
-
 // The first pair of a sled and a higher one that passes at an instant.
-fn first_with<T: PairTest>(test: &T, sleds: usize, instant: u8, first: usize) -> Option<Pair>
-    requires { (first < sleds) × ((sleds ≤ 6) × (instant < T.PairTest.span test.now)) }
-    ensures { result ≡ at_sled sleds (T.PairTest.test test.now) instant first }
+fn first_with<F: Fn(u8, usize, usize) -> bool>(
+    passes: &F,
+    sleds: usize,
+    instant: u8,
+    first: usize,
+) -> Option<Pair>
+    requires sled { first < sleds }
+    requires callable { (second : ℕ) → first < second → second < sleds → F.pre passes.now instant first second }
+    ensures { (test : ℕ → ℕ → ℕ → Bool)
+        → ((second : ℕ) (b : Bool) → first < second → second < sleds → F.post passes.now instant first second b → b ≡ test instant first second)
+        → result ≡ at_sled sleds test instant first }
 {
     for second in first + 1..sleds {
-        if test.holds(instant, first, second) {
+        if passes(instant, first, second) {
             return Some(Pair {
                 instant,
                 first,
@@ -40,12 +36,14 @@ fn first_with<T: PairTest>(test: &T, sleds: usize, instant: u8, first: usize) ->
 }
 
 // The first pair that passes at an instant.
-fn first_at<T: PairTest>(test: &T, sleds: usize, instant: u8) -> Option<Pair>
-    requires { (sleds ≤ 6) × (instant < T.PairTest.span test.now) }
-    ensures { result ≡ at_time sleds (T.PairTest.test test.now) instant }
+fn first_at<F: Fn(u8, usize, usize) -> bool>(passes: &F, sleds: usize, instant: u8) -> Option<Pair>
+    requires { (first second : ℕ) → first < second → second < sleds → F.pre passes.now instant first second }
+    ensures { (test : ℕ → ℕ → ℕ → Bool)
+        → ((first second : ℕ) (b : Bool) → first < second → second < sleds → F.post passes.now instant first second b → b ≡ test instant first second)
+        → result ≡ at_time sleds test instant }
 {
     for first in 0..sleds {
-        if let Some(pair) = first_with(test, sleds, instant, first) {
+        if let Some(pair) = first_with(passes, sleds, instant, first) {
             return Some(pair);
         }
     }
@@ -53,12 +51,16 @@ fn first_at<T: PairTest>(test: &T, sleds: usize, instant: u8) -> Option<Pair>
 }
 
 // The first pair that passes at one of the first instants.
-pub(crate) fn first_pair<T: PairTest>(test: &T, sleds: usize, instants: u8) -> Option<Pair>
-    requires { (sleds ≤ 6) × (instants ≤ T.PairTest.span test.now) }
-    ensures { result ≡ scanned sleds (T.PairTest.test test.now) instants }
+pub(crate) fn first_pair<F: Fn(u8, usize, usize) -> bool>(
+    sleds: usize,
+    instants: u8,
+    passes: F,
+) -> Option<Pair>
+    requires { Pairs sleds instants (F.pre passes) }
+    ensures { (test : ℕ → ℕ → ℕ → Bool) → Decides sleds instants (F.post passes) test → result ≡ scanned sleds test instants }
 {
     for instant in 0..instants {
-        if let Some(pair) = first_at(test, sleds, instant) {
+        if let Some(pair) = first_at(&passes, sleds, instant) {
             return Some(pair);
         }
     }

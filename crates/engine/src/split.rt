@@ -6,17 +6,20 @@ ghost use Rattle.engine.specs.Model.{search_of};
 ghost use Rattle.engine.specs.Table.{plan_of, sled_constraint_of, conflict_of, LiesIn};
 
 use super::conflict::Conflict;
-use super::node::{Constraint, MAX_SLEDS, Route, SledConstraint};
+use super::node::{Constraint, MAX_SLEDS, Move, Route, SledConstraint};
 use super::problem::Problem;
-use super::side::Side;
 
-// The move of a route in the step that leaves an instant, as a constraint.
-fn move_of(route: &Route, instant: u8) -> Constraint
+// The move of a route in the step that leaves an instant.
+fn move_of(route: &Route, instant: u8) -> Move
     requires { instant < 63 }
-    ensures { result ≡ Constraint.Move instant (slice_index route.now instant) (slice_index route.now (instant + 1)) }
+    ensures { result ≡ record { instant = instant; from = slice_index route.now instant; to = slice_index route.now (instant + 1) } }
 {
     let before = instant as usize;
-    Constraint::Move(instant, route[before], route[before + 1])
+    Move {
+        instant,
+        from: route[before],
+        to: route[before + 1],
+    }
 }
 
 // The constraints on the lower and on the higher sled: at an instant the two sets of the rule, in a step the move of each sled.
@@ -34,16 +37,15 @@ pub(crate) fn split<P: Problem>(
         Conflict::Meeting(pair) => {
             let u = routes[pair.first][pair.instant as usize];
             let v = routes[pair.second][pair.instant as usize];
-            let lower = problem.splits(Side::First, pair.first, pair.second, u, v);
-            let higher = problem.splits(Side::Second, pair.first, pair.second, u, v);
+            let sets = problem.splits(pair.first, pair.second, u, v);
             (
                 SledConstraint {
                     sled: pair.first,
-                    constraint: Constraint::Places(pair.instant, lower),
+                    constraint: Constraint::Places(pair.instant, sets.lower),
                 },
                 SledConstraint {
                     sled: pair.second,
-                    constraint: Constraint::Places(pair.instant, higher),
+                    constraint: Constraint::Places(pair.instant, sets.higher),
                 },
             )
         }
@@ -53,11 +55,11 @@ pub(crate) fn split<P: Problem>(
             (
                 SledConstraint {
                     sled: pair.first,
-                    constraint: lower,
+                    constraint: Constraint::Move(lower),
                 },
                 SledConstraint {
                     sled: pair.second,
-                    constraint: higher,
+                    constraint: Constraint::Move(higher),
                 },
             )
         }

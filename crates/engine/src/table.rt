@@ -2,21 +2,26 @@
 ghost use Rattle.std.specs.Prelude.{◌≡◌, ◌+◌, ◌<◌, ◌≤◌, [], ◌++◌, length, IfOk, vec_len, vec_capacity};
 ghost use Rattle.std.specs.Option.{option_to_list};
 ghost use Rattle.engine.specs.Least.{is_cheaper, CheapestSoFar, Within, closed_at};
+ghost use Rattle.engine.specs.WellFormed.{AllWellFormed, MadeWellFormed};
 
-use super::node::Node;
+use super::node::{MAX_NODES, Node};
 use std::alloc::{AllocError, Global};
 
-// The records by their numbers. All memory is taken when the table is made.
+// The records by their numbers. All memory is taken when the table is made, for the largest limit, and a record names only earlier
+// ones.
 #[derive(Drop)]
 pub(crate) struct NodeTable {
     pub(crate) nodes: Vec<Node>,
+    ghost few: { vec_len nodes ≤ 512 },
+    ghost room: { 512 ≤ vec_capacity nodes },
+    ghost formed: { AllWellFormed nodes.items },
 }
 
 impl NodeTable {
-    pub(crate) fn new(heap: Global, capacity: usize) -> Result<NodeTable, AllocError>
-        ensures { IfOk result (λ t. (t.nodes.items ≡ []) × (vec_len t.nodes ≡ 0) × (capacity ≤ vec_capacity t.nodes)) }
+    pub(crate) fn new(heap: Global) -> Result<NodeTable, AllocError>
+        ensures { IfOk result (λ t. t.nodes.items ≡ []) }
     {
-        let nodes = Vec::with_capacity(heap, capacity)?;
+        let nodes = Vec::with_capacity(heap, MAX_NODES as usize)?;
         Ok(NodeTable { nodes })
     }
 
@@ -24,7 +29,6 @@ impl NodeTable {
     pub(crate) fn clear(&mut self)
         ensures rows { self.new.nodes.items ≡ [] }
         ensures len { vec_len self.new.nodes ≡ 0 }
-        ensures capacity { vec_capacity self.new.nodes ≡ vec_capacity self.old.nodes }
     {
         self.nodes.clear();
     }
@@ -47,17 +51,16 @@ impl NodeTable {
         requires { number < vec_len self.old.nodes }
         ensures rows { self.new.nodes.items ≡ closed_at self.old.nodes.items number }
         ensures len { vec_len self.new.nodes ≡ vec_len self.old.nodes }
-        ensures capacity { vec_capacity self.new.nodes ≡ vec_capacity self.old.nodes }
     {
         self.nodes[number as usize].is_open = false;
     }
 
     // Fills the next record where a node was made.
     pub(crate) fn fill(&mut self, made: Option<Node>)
-        requires { vec_len self.old.nodes < vec_capacity self.old.nodes }
+        requires room { vec_len self.old.nodes < 512 }
+        requires formed { MadeWellFormed (vec_len self.old.nodes) made }
         ensures rows { self.new.nodes.items ≡ self.old.nodes.items ++ option_to_list made }
-        ensures len { vec_len self.new.nodes ≤ vec_len self.old.nodes + 1 }
-        ensures capacity { vec_capacity self.new.nodes ≡ vec_capacity self.old.nodes }
+        ensures len { (vec_len self.old.nodes ≤ vec_len self.new.nodes) × (vec_len self.new.nodes ≤ vec_len self.old.nodes + 1) }
     {
         if let Some(node) = made {
             self.nodes.push_reserved(node);
@@ -78,7 +81,6 @@ impl NodeTable {
 
     // The cheapest open node, the one of lowest number among equals.
     pub(crate) fn cheapest(&self) -> Option<u16>
-        requires { vec_len self.now.nodes ≤ 512 }
         ensures { CheapestSoFar self.now.nodes.items (vec_len self.now.nodes) result }
     {
         let mut best = None;

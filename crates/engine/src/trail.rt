@@ -1,21 +1,22 @@
 // The constraints of a node and its ancestors.
-ghost use Rattle.std.specs.Prelude.{◌+◌, ◌<◌, ◌≤◌, List, [], ◌∷◌, length, slice_index_or};
+ghost use Rattle.std.specs.Prelude.{◌+◌, ◌<◌, ◌≤◌, List, [], ◌∷◌, slice_index_or, vec_len};
 ghost use Rattle.tree.specs.Constraints as constraints;
 ghost use Rattle.tree.specs.Tree as tree;
 ghost use Rattle.engine.specs.Model.{Model};
 ghost use Rattle.engine.specs.Table.{Tracks, blank, sled_constraint_of};
-ghost use Rattle.engine.specs.WellFormed.{AllWellFormed};
-ghost use Rattle.engine.specs.Forbids.{Whole, Collected, FitsTable};
+ghost use Rattle.engine.specs.Forbids.{Collected, FitsTable};
 
 use super::forbidden::Forbidden;
-use super::node::{Node, SledConstraint};
+use super::node::SledConstraint;
+use super::table::NodeTable;
 
 // Adds what the trail of a node forbids a sled.
-fn add_trail(nodes: &[Node], number: usize, sled: usize, forbidden: &mut Forbidden)
-    requires room { (number < length nodes.now) × ((forbidden.old.count + number ≤ 512) × (Whole forbidden.old)) }
-    requires formed { AllWellFormed nodes.now }
-    ensures { (m : Model) (xs : List tree.Node) (all : List constraints.Constraint) → Tracks m nodes.now xs → Collected forbidden.old (constraints.constraints_on sled (slice_index_or xs number blank).trail) all → Collected forbidden.new [] all }
+fn add_trail(table: &NodeTable, number: usize, sled: usize, forbidden: &mut Forbidden)
+    requires { (number < vec_len table.now.nodes) × (forbidden.old.count + number ≤ 512) }
+    ensures { (m : Model) (xs : List tree.Node) (all : List constraints.Constraint) → Tracks m table.now.nodes.items xs → Collected forbidden.old (constraints.constraints_on sled (slice_index_or xs number blank).trail) all → Collected forbidden.new [] all }
 {
+    let nodes = table.records();
+    // From parent to parent by hand: nodes are numbers of the table, and the walk ends at the root, which alone has no constraint.
     let mut at = number;
     while let Some(own) = nodes[at].constraint {
         if own.sled == sled {
@@ -26,13 +27,12 @@ fn add_trail(nodes: &[Node], number: usize, sled: usize, forbidden: &mut Forbidd
 }
 
 // What a constraint and the trail of a node forbid the constrained sled.
-pub(crate) fn collect(nodes: &[Node], number: usize, own: SledConstraint) -> Forbidden
-    requires room { (number < length nodes.now) × ((length nodes.now ≤ 511) × (FitsTable own.constraint)) }
-    requires formed { AllWellFormed nodes.now }
-    ensures { (m : Model) (xs : List tree.Node) → Tracks m nodes.now xs → Collected result [] (constraints.constraints_on own.sled (sled_constraint_of own ∷ (slice_index_or xs number blank).trail)) }
+pub(crate) fn collect(table: &NodeTable, number: usize, own: SledConstraint) -> Forbidden
+    requires { (number < vec_len table.now.nodes) × FitsTable own.constraint }
+    ensures { (m : Model) (xs : List tree.Node) → Tracks m table.now.nodes.items xs → Collected result [] (constraints.constraints_on own.sled (sled_constraint_of own ∷ (slice_index_or xs number blank).trail)) }
 {
     let mut forbidden = Forbidden::nothing();
     forbidden.add(own.constraint);
-    add_trail(nodes, number, own.sled, &mut forbidden);
+    add_trail(table, number, own.sled, &mut forbidden);
     forbidden
 }

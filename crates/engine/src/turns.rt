@@ -19,9 +19,8 @@ impl Engine {
     pub fn new(heap: Global) -> Result<Engine, AllocError>
         ensures { IfOk result Unopened }
     {
-        let table = NodeTable::new(heap, MAX_NODES as usize)?;
         Ok(Engine {
-            table,
+            table: NodeTable::new(heap)?,
             verdict: Verdict::Working,
             limit: 0,
         })
@@ -59,21 +58,14 @@ impl Engine {
                 }
             },
             (Verdict::Working, None) => self.verdict = Verdict::Unsolvable,
-            (Verdict::Solved(_), _) => {}
-            (Verdict::Unsolvable, _) => {}
-            (Verdict::Full, _) => {}
+            _ => {}
         }
     }
 
     pub(crate) fn is_working(&self) -> bool
         ensures { result ≡ tree.is_working (verdict_of self.now.verdict) }
     {
-        match self.verdict {
-            Verdict::Working => true,
-            Verdict::Solved(_) => false,
-            Verdict::Unsolvable => false,
-            Verdict::Full => false,
-        }
+        matches!(self.verdict, Verdict::Working)
     }
 
     // Makes turns until there are as many as asked or the search ends, and tells how many it made.
@@ -81,11 +73,12 @@ impl Engine {
         ensures made { (t : tree.Tree) → IsAt (P.Problem.model problem.now) self.old t → result ≡ made_by (search_of (P.Problem.model problem.now)) self.old.limit count t }
         ensures goes { Goes (P.Problem.model problem.now) self.old self.new (after_turns (search_of (P.Problem.model problem.now)) self.old.limit count) }
     {
-        let mut made = 0;
-        while made < count && self.is_working() {
+        for made in 0..count {
+            if !self.is_working() {
+                return made;
+            }
             self.turn(problem);
-            made += 1;
         }
-        made
+        count
     }
 }

@@ -1,12 +1,16 @@
+use Rattle.std.proofs.Common.{suc, take, ap, ◌∙◌}
+use Rattle.std.specs.Option.{option_map}
 use Rattle.engine.proofs.Choosing.{choice_none, choice_some}
 use Rattle.engine.proofs.plan.plan_sled.Goals as goal
 
-pub returns-in-Some : goal.returns-in-Some
-returns-in-Some g c bs col times =
-    choice_some (g.P.Problem.model c.args.problem.now) (g.met.P.Problem.keeps c.args.problem.now) c.args.forbidden.now bs col times c.args.sled
-    _ c.start-start.result c.goal-goal.result c.horizon.ensures c.start-start.ensures c.goal-goal.ensures c.in-Some.found c.in-Some.ensures
+pub returns-in_err-found : goal.returns-in_err-found
+returns-in_err-found g c bs col times =
+    let m = g.P.Problem.model c.args.problem.now in
+    ap (option_map (take (suc m.setting.horizon))) c.from_residual.ensures
+    ∙ choice_none m (g.met.P.Problem.keeps c.args.problem.now) c.args.forbidden.now bs col times c.args.sled
+    _ c.start-start.result c.goal-goal.result c.horizon.ensures c.start-start.ensures c.goal-goal.ensures c.in_err-found.ensures
 
-pub returns-in-None : goal.returns-in-None
-returns-in-None g c bs col times =
-    choice_none (g.P.Problem.model c.args.problem.now) (g.met.P.Problem.keeps c.args.problem.now) c.args.forbidden.now bs col times c.args.sled
-    _ c.start-start.result c.goal-goal.result c.horizon.ensures c.start-start.ensures c.goal-goal.ensures c.in-None.ensures
+pub returns : goal.returns
+returns g c bs col times =
+    choice_some (g.P.Problem.model c.args.problem.now) (g.met.P.Problem.keeps c.args.problem.now) c.args.forbidden.now bs col times c.args.sled
+    _ c.start-start.result c.goal-goal.result c.horizon.ensures c.start-start.ensures c.goal-goal.ensures c.in_ok-found.found c.in_ok-found.ensures

@@ -1,21 +1,20 @@
-use Rattle.std.proofs.Common.{◌≡◌, sym, ap, ◌∙◌, arith}
-use Rattle.tree.specs.Lists.{first_below}
-use Rattle.engine.specs.Scans.{scanned, at_time}
-use Rattle.engine.proofs.Below.{none_all, none_more, found_at}
+use Rattle.std.proofs.Common.{sym, arith, below_more}
+use Rattle.engine.specs.Scans.{at_time, scanned}
+use Rattle.engine.proofs.Below.{none_all, found_at}
 use Rattle.engine.proofs.scan.first_pair.Goals as goal
 
-pub loop-instant-init : goal.loop-instant-init
-loop-instant-init g c = none_all (at_time c.args.sleds (g.T.PairTest.test c.args.test.now)) 0 (λ k l. absurd (omega arith))
-
 pub loop-instant-preserved : goal.loop-instant-preserved
-loop-instant-preserved g c = none_more (at_time c.args.sleds (g.T.PairTest.test c.args.test.now)) c.loop-instant.instant c.loop-instant.invariant (sym c.in_default.ensures)
+loop-instant-preserved g c test h =
+    below_more _ _ (c.loop-instant.invariant test h) (sym (c.in_default.ensures test (λ i j b l m p. h c.loop-instant.instant i j c.loop-instant-test.true l m b p)))
 
 pub returns-in-Some : goal.returns-in-Some
 unfolding scanned
-returns-in-Some g c = sym (found_at (at_time c.args.sleds (g.T.PairTest.test c.args.test.now)) c.loop-instant.instant c.args.instants c.loop-instant.invariant (sym c.in-Some.ensures) c.loop-instant-test.true)
+returns-in-Some g c test h =
+    let scan = at_time c.args.sleds test in
+    let t = c.loop-instant.instant in
+    sym (found_at scan t c.args.instants (none_all scan t (c.loop-instant.invariant test h)) (sym (c.in-Some.ensures test (λ i j b l m p. h t i j c.loop-instant-test.true l m b p))) c.loop-instant-test.true)
 
 pub returns : goal.returns
 unfolding scanned
-returns g c =
-    let e : c.loop-instant.instant ≡ c.args.instants = omega (arith, c.loop-instant.auto.instant-end) in
-    sym (ap (first_below (at_time c.args.sleds (g.T.PairTest.test c.args.test.now))) (sym e) ∙ c.loop-instant.invariant)
+returns g c test h =
+    sym (none_all (at_time c.args.sleds test) c.args.instants (λ k l. c.loop-instant.invariant test h k (omega (arith, c.loop-instant-test.false))))

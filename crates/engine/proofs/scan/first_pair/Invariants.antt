@@ -1,7 +1,8 @@
-use Rattle.std.proofs.Common.{◌≡◌, None}
-use Rattle.tree.specs.Lists.{first_below}
-use Rattle.engine.specs.Scans.{at_time}
+use Rattle.std.proofs.Common.{◌≡◌, ℕ, ◌<◌, Bool, None}
+use Rattle.engine.specs.Scans.{Decides, at_time}
 use Rattle.engine.proofs.scan.first_pair.Given as goal
 
 abbrev pub invariant-loop-instant : goal.invariant-loop-instant
-invariant-loop-instant g l = first_below (at_time l.sleds (g.T.PairTest.test l.test)) l.instant ≡ None
+invariant-loop-instant g l =
+    (test : ℕ → ℕ → ℕ → Bool) → Decides l.sleds l.instants (goal.F-post g l.passes) test →
+    (t : ℕ) → t < l.instant → at_time l.sleds test t ≡ None

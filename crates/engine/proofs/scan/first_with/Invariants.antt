@@ -1,7 +1,5 @@
-use Rattle.std.proofs.Common.{◌≡◌, None}
-use Rattle.tree.specs.Lists.{first_below}
-use Rattle.engine.specs.Scans.{at_pair}
+use Rattle.std.proofs.Common.{◌≡◌, ℕ, ◌<◌, false}
 use Rattle.engine.proofs.scan.first_with.Given as goal
 
 abbrev pub invariant-loop-second : goal.invariant-loop-second
-invariant-loop-second g l = first_below (at_pair l.sleds (g.T.PairTest.test l.test) l.instant l.first) l.second ≡ None
+invariant-loop-second g l = (j : ℕ) → l.first < j → j < l.second → goal.F-post g l.passes l.instant l.first j false

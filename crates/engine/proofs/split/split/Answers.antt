@@ -1,50 +1,47 @@
-use Rattle.std.proofs.Common.{ℕ, sym, ap, ◌∙◌, subst, arith}
+use Rattle.std.proofs.Common.{◌≡◌, ℕ, length, sym, ap, ◌∙◌, subst, arith}
 use Rattle.tree.specs.Constraints as constraints
 use Rattle.tree.specs.Conflicts as conflicts
 use Rattle.tree.specs.Tree as tree
-use Rattle.engine.specs.declared.node.Constraint.{Constraint}
+use Rattle.engine.specs.declared.node.Move.{Move}
 use Rattle.engine.specs.declared.conflict.Conflict.{Conflict}
 use Rattle.engine.specs.Model.{search_of}
-use Rattle.engine.specs.Table.{plan_of, constraint_of, conflict_of, Timely}
+use Rattle.engine.specs.Table.{plan_of, conflict_of}
 use Rattle.engine.proofs.Splits.{meeting_first, meeting_second, collision_first, collision_second}
 use Rattle.engine.proofs.split.split.Goals as goal
 
-abbrev record_of : ℕ → Constraint → constraints.SledConstraint
-record_of s k = record { sled = s; constraint = constraint_of k }
+abbrev record_of : ℕ → Move → constraints.SledConstraint
+record_of s k = record { sled = s; constraint = constraints.move_constraint k.instant k.from k.to }
 
-pub returns-in-Meeting : goal.returns-in-Meeting
-returns-in-Meeting g c =
+pub returns-in-Meeting-clause-first : goal.returns-in-Meeting-clause-first
+returns-in-Meeting-clause-first g c x e =
     let m = g.P.Problem.model c.args.problem.now in
-    let ok = g.met.P.Problem.keeps c.args.problem.now in
-    let rs = c.args.routes.now in
-    let t = c.in-Meeting.pair.instant in
-    let i = c.in-Meeting.pair.first in
-    let j = c.in-Meeting.pair.second in
-    let real = subst (λ (x : Conflict). conflicts.HasConflict m.setting (plan_of m.setting rs) (conflict_of x)) c.in-Meeting.is c.requires in
-    record {
-      first = λ x e. ap (λ (k : Conflict). tree.first_constraint (search_of m) x (conflict_of k)) c.in-Meeting.is
-          ∙ meeting_first m ok rs x e t i j real.1 real.2 real.0 c.splits-lower.result c.splits-lower.ensures.size c.splits-lower.ensures.places;
-      second = λ x e. ap (λ (k : Conflict). tree.second_constraint (search_of m) x (conflict_of k)) c.in-Meeting.is
-          ∙ meeting_second m ok rs x e t i j real.1 real.2 real.0 c.splits-higher.result c.splits-higher.ensures.size c.splits-higher.ensures.places;
-      lies = ((omega (arith, real.1, real.2), real.0), (real.2, real.0));
-    }
+    let p = c.in-Meeting.pair in
+    let real = subst (λ (k : Conflict). conflicts.HasConflict m.setting (plan_of m.setting c.args.routes.now) (conflict_of k)) c.in-Meeting.is c.requires in
+    let size : length c.splits-sets.result.lower ≡ 256 = omega arith in
+    ap (λ (k : Conflict). tree.first_constraint (search_of m) x (conflict_of k)) c.in-Meeting.is
+    ∙ meeting_first m (g.met.P.Problem.keeps c.args.problem.now) c.args.routes.now x e p.instant p.first p.second real.1 real.2 real.0 c.splits-sets.result.lower size c.splits-sets.ensures.lower
 
-pub returns-in-Collision : goal.returns-in-Collision
-returns-in-Collision g c =
+pub returns-in-Meeting-clause-second : goal.returns-in-Meeting-clause-second
+returns-in-Meeting-clause-second g c x e =
     let m = g.P.Problem.model c.args.problem.now in
-    let ok = g.met.P.Problem.keeps c.args.problem.now in
-    let rs = c.args.routes.now in
-    let t = c.in-Collision.pair.instant in
-    let i = c.in-Collision.pair.first in
-    let j = c.in-Collision.pair.second in
-    let real = subst (λ (x : Conflict). conflicts.HasConflict m.setting (plan_of m.setting rs) (conflict_of x)) c.in-Collision.is c.requires in
-    record {
-      first = λ x e. ap (λ (k : Conflict). tree.first_constraint (search_of m) x (conflict_of k)) c.in-Collision.is
-          ∙ collision_first m ok rs x e t i j real.1 real.2 real.0 ∙ ap (record_of i) (sym c.move_of-lower.ensures);
-      second = λ x e. ap (λ (k : Conflict). tree.second_constraint (search_of m) x (conflict_of k)) c.in-Collision.is
-          ∙ collision_second m ok rs x e t i j real.1 real.2 real.0 ∙ ap (record_of j) (sym c.move_of-higher.ensures);
-      lies = (
-        (omega (arith, real.1, real.2), subst (Timely m.setting) (sym c.move_of-lower.ensures) real.0),
-        (real.2, subst (Timely m.setting) (sym c.move_of-higher.ensures) real.0),
-      );
-    }
+    let p = c.in-Meeting.pair in
+    let real = subst (λ (k : Conflict). conflicts.HasConflict m.setting (plan_of m.setting c.args.routes.now) (conflict_of k)) c.in-Meeting.is c.requires in
+    let size : length c.splits-sets.result.higher ≡ 256 = omega arith in
+    ap (λ (k : Conflict). tree.second_constraint (search_of m) x (conflict_of k)) c.in-Meeting.is
+    ∙ meeting_second m (g.met.P.Problem.keeps c.args.problem.now) c.args.routes.now x e p.instant p.first p.second real.1 real.2 real.0 c.splits-sets.result.higher size c.splits-sets.ensures.higher
+
+pub returns-in-Collision-clause-first : goal.returns-in-Collision-clause-first
+returns-in-Collision-clause-first g c x e =
+    let m = g.P.Problem.model c.args.problem.now in
+    let p = c.in-Collision.pair in
+    let real = subst (λ (k : Conflict). conflicts.HasConflict m.setting (plan_of m.setting c.args.routes.now) (conflict_of k)) c.in-Collision.is c.requires in
+    ap (λ (k : Conflict). tree.first_constraint (search_of m) x (conflict_of k)) c.in-Collision.is
+    ∙ collision_first m (g.met.P.Problem.keeps c.args.problem.now) c.args.routes.now x e p.instant p.first p.second real.1 real.2 real.0 ∙ ap (record_of p.first) (sym c.move_of-lower.ensures)
+
+pub returns-in-Collision-clause-second : goal.returns-in-Collision-clause-second
+returns-in-Collision-clause-second g c x e =
+    let m = g.P.Problem.model c.args.problem.now in
+    let p = c.in-Collision.pair in
+    let real = subst (λ (k : Conflict). conflicts.HasConflict m.setting (plan_of m.setting c.args.routes.now) (conflict_of k)) c.in-Collision.is c.requires in
+    ap (λ (k : Conflict). tree.second_constraint (search_of m) x (conflict_of k)) c.in-Collision.is
+    ∙ collision_second m (g.met.P.Problem.keeps c.args.problem.now) c.args.routes.now x e p.instant p.first p.second real.1 real.2 real.0 ∙ ap (record_of p.second) (sym c.move_of-higher.ensures)

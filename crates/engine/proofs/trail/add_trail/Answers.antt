@@ -1,7 +1,9 @@
 use Rattle.std.proofs.Common.{List, get_or, sym, ap, ◌∙◌, subst, arith}
 use Rattle.tree.specs.Constraints as constraints
-use Rattle.engine.specs.Table.{blank, empty}
-use Rattle.engine.specs.Forbids.{Whole, Collected}
+use Rattle.engine.specs.declared.node.Node.{Node}
+use Rattle.engine.specs.Table.{Tracks, blank, empty}
+use Rattle.engine.specs.Forbids.{Collected}
+use Rattle.engine.specs.WellFormed.{AllWellFormed}
 use Rattle.engine.specs.declared.forbidden.Forbidden.{Forbidden}
 use Rattle.engine.proofs.Trails.{constraints_same, constraints_other, constraints_none, root_trail, child_trail}
 use Rattle.engine.proofs.Forming.{formed_lower, formed_fits}
@@ -10,24 +12,21 @@ use Rattle.engine.proofs.trail.add_trail.Goals.{then-own-sled, else-own-sled}
 
 pub loop-at-preserved : goal.loop-at-preserved
 loop-at-preserved c =
-    let table = c.args.nodes.now in
+    let table = c.records-nodes.result.now in
+    let formed = subst AllWellFormed (sym c.records-nodes.ensures.value) c.args.table.now.formed in
     let k = c.loop-at.at in
     let inv = c.loop-at.invariant in
     let b = c.in-Some.own in
     let s = c.args.sled in
-    let lower = formed_lower k (get_or table k empty) b c.in-Some.is (c.requires.formed k inv.0) in (
+    let lower = formed_lower k (get_or table k empty) b c.in-Some.is (formed k inv.0) in (
       omega (arith, inv.0, lower),
       elim c.if-own-sled.branch [
         | then-own-sled w ↦ omega (arith, inv.1, lower, w.add.ensures.count, ap (λ (x : Forbidden). x.count) w.forbidden-is)
         | else-own-sled w ↦ omega (arith, inv.1, lower, ap (λ (x : Forbidden). x.count) w.forbidden-is)
       ],
-      elim c.if-own-sled.branch [
-        | then-own-sled w ↦ subst Whole (sym w.forbidden-is) w.add.ensures.whole
-        | else-own-sled w ↦ subst Whole (sym w.forbidden-is) inv.2
-      ],
       λ m xs all t h.
           let tr = (get_or xs (get_or table k empty).parent blank).trail in
-          let so_far = inv.3 m xs all t h in
+          let so_far = inv.2 m xs all t h in
           let trail = ap (constraints.constraints_on s) (child_trail m table xs t k inv.0 b c.in-Some.is) in
           elim c.if-own-sled.branch [
             | then-own-sled w ↦
@@ -41,17 +40,17 @@ loop-at-preserved c =
 
 pub loop-at-smaller : goal.loop-at-smaller
 loop-at-smaller c =
-    formed_lower c.loop-at.at (get_or c.args.nodes.now c.loop-at.at empty) c.in-Some.own c.in-Some.is (c.requires.formed c.loop-at.at c.loop-at.invariant.0)
+    let formed = subst AllWellFormed (sym c.records-nodes.ensures.value) c.args.table.now.formed in
+    formed_lower c.loop-at.at (get_or c.records-nodes.result.now c.loop-at.at empty) c.in-Some.own c.in-Some.is (formed c.loop-at.at c.loop-at.invariant.0)
 
 pub add-requires : goal.add-requires
 add-requires c =
     let inv = c.loop-at.invariant in
-    let formed = c.requires.formed c.loop-at.at inv.0 in
-    let n = get_or c.args.nodes.now c.loop-at.at empty in
+    let formed = subst AllWellFormed (sym c.records-nodes.ensures.value) c.args.table.now.formed c.loop-at.at inv.0 in
+    let n = get_or c.records-nodes.result.now c.loop-at.at empty in
     let lower = formed_lower c.loop-at.at n c.in-Some.own c.in-Some.is formed in
     record {
-      whole = inv.2;
-      room = omega (arith, inv.1, lower, c.requires.room.1);
+      room = omega (arith, inv.1, lower, c.requires.1);
       fits = formed_fits c.loop-at.at n c.in-Some.own c.in-Some.is formed;
     }
 
@@ -59,4 +58,5 @@ pub returns : goal.returns
 returns c m xs all t h =
     let inv = c.loop-at.invariant in
     let s = c.args.sled in
-    subst (λ (bs : List constraints.Constraint). Collected c.loop-at.forbidden bs all) (ap (constraints.constraints_on s) (root_trail m c.args.nodes.now xs t c.loop-at.at inv.0 c.in_default.is) ∙ constraints_none s) (inv.3 m xs all t h)
+    let same : Tracks m c.records-nodes.result.now xs = subst (λ (ns : List Node). Tracks m ns xs) (sym c.records-nodes.ensures.value) t in
+    subst (λ (bs : List constraints.Constraint). Collected c.loop-at.forbidden bs all) (ap (constraints.constraints_on s) (root_trail m c.records-nodes.result.now xs same c.loop-at.at inv.0 c.in_default.is) ∙ constraints_none s) (inv.2 m xs all same h)

@@ -16,12 +16,7 @@ returns-in-Verdict g c =
     let m = g.P.Problem.model c.args.problem.now in
     answered m _ _ _ calls.ask_verdict _ (ap call_of c.in-Verdict.is) (record { told = λ t f. ap calls.status (c.verdict.ensures m t f); goes = λ t f. f; same_limit = refl })
 
-pub returns-in-Ok-place : goal.returns-in-Ok-place
+pub returns-in-Place : goal.returns-in-Place
 unfolding calls.reply calls.after
-returns-in-Ok-place g c =
-    answered (g.P.Problem.model c.args.problem.now) _ _ _ (calls.ask_place c.in-Place.sled c.in-Place.instant) _ (ap call_of c.in-Place.is) (record { told = c.in-Ok-place.ensures; goes = λ t f. f; same_limit = refl })
-
-pub returns-in-Err-place : goal.returns-in-Err-place
-unfolding calls.reply calls.after
-returns-in-Err-place g c =
-    answered (g.P.Problem.model c.args.problem.now) _ _ _ (calls.ask_place c.in-Place.sled c.in-Place.instant) _ (ap call_of c.in-Place.is) (record { told = c.in-Err-place.ensures; goes = λ t f. f; same_limit = refl })
+returns-in-Place g c =
+    answered (g.P.Problem.model c.args.problem.now) _ _ _ (calls.ask_place c.in-Place.sled c.in-Place.instant) _ (ap call_of c.in-Place.is) (record { told = c.place.ensures; goes = λ t f. f; same_limit = refl })

@@ -16,35 +16,34 @@ loop-made-preserved g c =
     let old = c.loop-made.self in
     let new = c.turn.new.self in
     let goes : (u : tree.Tree) → IsAt m old u → IsAt m new (tree.turn P limit u) =
-    subst (λ (j : ℕ). (u : tree.Tree) → IsAt m old u → IsAt m new (tree.turn P j u)) inv.1 c.turn.ensures.goes in (
-      omega (arith, c.loop-made-test.true),
-      c.turn.ensures.same_limit ∙ inv.1,
+    subst (λ (j : ℕ). (u : tree.Tree) → IsAt m old u → IsAt m new (tree.turn P j u)) inv.0 c.turn.ensures.goes in (
+      c.turn.ensures.same_limit ∙ inv.0,
       λ t f.
-          let r = inv.2 t f in
+          let r = inv.1 t f in
           let u = r.0 in
-          let works : tree.is_working u.verdict ≡ true = ap tree.is_working r.1.verdict_is ∙ sym c.if-is_working.ensures in
+          let works : tree.is_working u.verdict ≡ true = ap tree.is_working r.1.verdict_is ∙ sym c.if-not-is_working.ensures in
           (tree.turn P limit u, goes u r.1, after_more P limit n k t u c.loop-made-test.true r.2, made_more P limit n k t u c.loop-made-test.true works r.3),
     )
 
-pub returns-else-is_working : goal.returns-else-is_working
-returns-else-is_working g c =
+pub returns-then-not-is_working : goal.returns-then-not-is_working
+returns-then-not-is_working g c =
     let m = g.P.Problem.model c.args.problem.now in
     let P = search_of m in
     let limit = c.args.self.now.limit in
     let inv = c.loop-made.invariant in
     let n = c.args.count in
     let k = c.loop-made.made in
-    let rest : (t : tree.Tree) (f : IsAt m c.args.self.now t) → tree.is_working (inv.2 t f).0.verdict ≡ false = λ t f. ap tree.is_working (inv.2 t f).1.verdict_is ∙ sym c.if-is_working.ensures in
+    let rest : (t : tree.Tree) (f : IsAt m c.args.self.now t) → tree.is_working (inv.1 t f).0.verdict ≡ false = λ t f. ap tree.is_working (inv.1 t f).1.verdict_is ∙ sym c.if-not-is_working.ensures in
     record {
-      made = λ t f. let r = inv.2 t f in omega (arith, r.3, made_rest P limit (n - k) r.0 (rest t f));
+      made = λ t f. let r = inv.1 t f in omega (arith, r.3, made_rest P limit (n - k) r.0 (rest t f));
       goes = record {
-        goes = λ t f. let r = inv.2 t f in subst (IsAt m c.loop-made.self) (sym (r.2 ∙ after_rest P limit (n - k) r.0 (rest t f))) r.1;
-        same_limit = inv.1;
+        goes = λ t f. let r = inv.1 t f in subst (IsAt m c.loop-made.self) (sym (r.2 ∙ after_rest P limit (n - k) r.0 (rest t f))) r.1;
+        same_limit = inv.0;
       };
     }
 
-pub returns-after-loop-made : goal.returns-after-loop-made
-returns-after-loop-made g c =
+pub returns : goal.returns
+returns g c =
     let m = g.P.Problem.model c.args.problem.now in
     let P = search_of m in
     let limit = c.args.self.now.limit in
@@ -52,9 +51,9 @@ returns-after-loop-made g c =
     let n = c.args.count in
     let k = c.loop-made.made in
     record {
-      made = λ t f. let r = inv.2 t f in omega (arith, r.3, made_all P limit n k r.0 c.loop-made-test.false);
+      made = λ t f. let r = inv.1 t f in omega (arith, r.3, made_all P limit n k r.0 c.loop-made-test.false);
       goes = record {
-        goes = λ t f. let r = inv.2 t f in subst (IsAt m c.loop-made.self) (sym (r.2 ∙ after_all P limit n k r.0 c.loop-made-test.false)) r.1;
-        same_limit = inv.1;
+        goes = λ t f. let r = inv.1 t f in subst (IsAt m c.loop-made.self) (sym (r.2 ∙ after_all P limit n k r.0 c.loop-made-test.false)) r.1;
+        same_limit = inv.0;
       };
     }

@@ -1,19 +1,24 @@
-use Rattle.std.proofs.Common.{◌≡◌, ◌<◌, true, List, length, get_or, ap, ◌∙◌, subst, arith}
-use Rattle.std.proofs.lemmas.Bool.{ltb-true}
-use Rattle.tree.specs.Calls as calls
-use Rattle.engine.specs.declared.node.Node.{Node}
-use Rattle.engine.specs.declared.node.Verdict.{Verdict}
-use Rattle.engine.specs.Table.{empty, at_of, Follows}
-use Rattle.engine.specs.WellFormed.{inside}
-use Rattle.engine.proofs.Calling.{told_place}
+use Rattle.std.proofs.Common.{arith}
+use Rattle.engine.specs.Table.{plan_of}
+use Rattle.engine.proofs.Calling.{place_none, place_found, place_high}
 use Rattle.engine.proofs.state.Engine.place.Goals as goal
+use Rattle.engine.proofs.state.Engine.place.Goals.{else-sled-sleds-via-then-sled-sleds+else-instant-horizon, else-sled-sleds-via-else-sled-sleds}
+
+pub returns-in_default : goal.returns-in_default
+returns-in_default g c t f =
+    let m = g.P.Problem.model c.args.problem.now in
+    place_none m.setting t.nodes t.verdict c.args.sled c.args.instant (c.in_default.ensures m t f)
 
 pub returns-then-instant-horizon : goal.returns-then-instant-horizon
 returns-then-instant-horizon g c t f =
-    let e = c.args.self.now in
     let m = g.P.Problem.model c.args.problem.now in
-    let v = e.table.nodes in
-    let k = c.in-Solved.number in
-    let l : k < length v.items = omega (arith, ltb-true k v.len (subst (λ (w : Verdict). inside v.len w ≡ true) c.in-Solved.is e.solved), v.ok.0) in
-    ap (λ (ns : List Node). calls.stands (at_of (get_or ns k empty).routes c.args.sled c.args.instant)) c.records.ensures.value
-    ∙ told_place m v.items k t (subst (λ (w : Verdict). Follows m v.items w t) c.in-Solved.is f) l c.args.sled (omega (arith, c.sleds.ensures)) c.args.instant (omega (arith, c.horizon.ensures))
+    place_found m.setting t.nodes t.verdict c.in-Some.node.now.routes c.args.sled c.args.instant (c.in-Some.ensures m t f) (omega (arith, c.sleds.ensures)) (omega (arith, c.horizon.ensures))
+
+pub returns-else-sled-sleds : goal.returns-else-sled-sleds
+returns-else-sled-sleds g c t f =
+    let m = g.P.Problem.model c.args.problem.now in
+    place_high m.setting t.nodes t.verdict (plan_of m.setting c.in-Some.node.now.routes) c.args.sled c.args.instant (c.in-Some.ensures m t f) (λ h l.
+    elim c.else-sled-sleds.branch [
+      | else-sled-sleds-via-then-sled-sleds+else-instant-horizon w ↦ omega (arith, w.if-instant-horizon.false, w.horizon.ensures)
+      | else-sled-sleds-via-else-sled-sleds w ↦ omega (arith, w.if-sled-sleds.false, c.sleds.ensures)
+    ])

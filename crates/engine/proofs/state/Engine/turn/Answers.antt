@@ -15,8 +15,7 @@ expand-requires g c =
     let e = c.args.self.now in
     let k = c.in-Working-Some.number in
     record {
-      room = (c.in-Working-Some.ensures.below, (omega (arith, e.room, e.high, c.len.ensures), omega (arith, e.high, c.len.ensures)));
-      formed = e.formed;
+      room = (c.in-Working-Some.ensures.below, omega (arith, e.high, c.len.ensures));
       real = real_conflict m.setting (plan_of m.setting (get_or e.table.nodes.items k empty).routes) c.in-Some.conflict
           (c.in-Some.ensures ∙ ap (λ (ns : List Node). conflicts.first_conflict m.setting (plan_of m.setting (get_or ns k empty).routes)) c.records.ensures.value);
     }
@@ -69,15 +68,9 @@ returns-else-len-self g c =
     record {
       goes = λ t f.
           subst (λ (w : Verdict). Follows m after w (tree.turn (search_of m) e.limit t)) (sym c.in-Working-Some.is-0)
-          (turn_on m e.limit v.items t (subst (λ (w : Verdict). Follows m v.items w t) c.in-Working-Some.is-0 f) k best c.in-Some.conflict told (omega (arith, v.ok.0, c.len.ensures, c.if-len-self.false)) after (c.expand.ensures.tracks t.nodes f.tracks));
+          (turn_on m e.limit v.items t (subst (λ (w : Verdict). Follows m v.items w t) c.in-Working-Some.is-0 f) k best c.in-Some.conflict told (omega (arith, v.ok.0, c.len.ensures, c.if-len-self.false)) after (c.expand.ensures t.nodes f.tracks));
       same_limit = refl;
     }
 
-pub returns-in-Solved-default : goal.returns-in-Solved-default
-returns-in-Solved-default g c = engine_rests (g.P.Problem.model c.args.problem.now) c.args.self.now (ap (λ (w : Verdict). tree.is_working (verdict_of w)) c.in-Solved-default.is-0)
-
-pub returns-in-Unsolvable-default : goal.returns-in-Unsolvable-default
-returns-in-Unsolvable-default g c = engine_rests (g.P.Problem.model c.args.problem.now) c.args.self.now (ap (λ (w : Verdict). tree.is_working (verdict_of w)) c.in-Unsolvable-default.is-0)
-
-pub returns-in-Full-default : goal.returns-in-Full-default
-returns-in-Full-default g c = engine_rests (g.P.Problem.model c.args.problem.now) c.args.self.now (ap (λ (w : Verdict). tree.is_working (verdict_of w)) c.in-Full-default.is-0)
+pub returns-in_default : goal.returns-in_default
+returns-in_default g c = engine_rests (g.P.Problem.model c.args.problem.now) c.args.self.now c.in_default.not-Working-0

@@ -4,33 +4,26 @@ use Rattle.tree.specs.Tree as tree
 use Rattle.engine.specs.declared.node.Node.{Node}
 use Rattle.engine.specs.Model.{search_of}
 use Rattle.engine.specs.Table.{Tracks, plan_of, conflict_of, found_of, blank, empty}
-use Rattle.engine.specs.Least.{closed_at}
-use Rattle.engine.specs.WellFormed.{AllWellFormed}
-use Rattle.engine.proofs.Forming.{formed_expanded}
 use Rattle.engine.proofs.Tables.{expand_tracks}
 use Rattle.engine.proofs.table.NodeTable.expand.Goals as goal
 
+pub fill-requires-clause-formed : goal.fill-requires-clause-formed
+fill-requires-clause-formed g c = c.child-lower.ensures.formed _ (omega (arith, c.close.ensures.len, c.requires.room.0))
+
+pub fill-requires-2-clause-formed : goal.fill-requires-2-clause-formed
+fill-requires-2-clause-formed g c = c.child-higher.ensures.formed _ (omega (arith, c.close.ensures.len, c.fill.ensures.len.0, c.requires.room.0))
+
 pub returns : goal.returns
-returns g c =
+returns g c xs t =
     let m = g.P.Problem.model c.args.problem.now in
     let rows = c.args.self.now.nodes.items in
     let number = c.args.number in
     let lower = c.child-lower.result in
     let higher = c.child-higher.result in
     let l : number < length rows = omega (arith, c.args.self.now.nodes.ok.0, c.requires.room.0) in
-    let rows_are : c.fill-2.new.self.nodes.items ≡ (closed_at rows number ++ option_to_list lower) ++ option_to_list higher =
-    c.fill-2.ensures.rows ∙ ap (λ (ns : List Node). ns ++ option_to_list higher) (c.fill.ensures.rows ∙ ap (λ (ns : List Node). ns ++ option_to_list lower) c.close.ensures.rows) in
-    record {
-      formed = subst AllWellFormed (sym rows_are) (formed_expanded rows number lower higher l c.requires.formed c.child-lower.ensures.formed c.child-higher.ensures.formed);
-      tracks = λ xs t.
-          let routes = (t.each number l).routes ∙ ap (λ (ns : List Node). plan_of m.setting (get_or ns number empty).routes) (sym c.records.ensures.value) in
-          let t₂ = subst (λ (ns : List Node). Tracks m ns xs) (sym c.records-2.ensures.value) t in
-          let t₃ = subst (λ (ns : List Node). Tracks m ns xs) (sym c.records-3.ensures.value) t in
-          subst (λ (ns : List Node). Tracks m ns (tree.expand (search_of m) xs (found_of xs number) (conflict_of c.args.conflict)))
-          (sym (c.fill-2.ensures.rows ∙ ap (λ (ns : List Node). ns ++ option_to_list higher) (c.fill.ensures.rows ∙ ap (λ (ns : List Node). ns ++ option_to_list lower) c.close.ensures.rows)))
-          (expand_tracks m rows xs t number l c.args.conflict c.split.result.0 c.split.result.1 lower higher
-          (c.split.ensures.first (get_or xs number blank) routes) (c.split.ensures.second (get_or xs number blank) routes)
-          (λ k h. c.child-lower.ensures.as_made xs k t₂ h) (λ k h. c.child-higher.ensures.as_made xs k t₃ h));
-      len = omega (arith, c.fill.ensures.len, c.fill-2.ensures.len, c.close.ensures.len);
-      capacity = c.fill-2.ensures.capacity ∙ c.fill.ensures.capacity ∙ c.close.ensures.capacity;
-    }
+    let routes = (t.each number l).routes ∙ ap (λ (ns : List Node). plan_of m.setting (get_or ns number empty).routes) (sym c.records.ensures.value) in
+    subst (λ (ns : List Node). Tracks m ns (tree.expand (search_of m) xs (found_of xs number) (conflict_of c.args.conflict)))
+    (sym (c.fill-2.ensures.rows ∙ ap (λ (ns : List Node). ns ++ option_to_list higher) (c.fill.ensures.rows ∙ ap (λ (ns : List Node). ns ++ option_to_list lower) c.close.ensures.rows)))
+    (expand_tracks m rows xs t number l c.args.conflict c.split.result.0 c.split.result.1 lower higher
+    (c.split.ensures.first (get_or xs number blank) routes) (c.split.ensures.second (get_or xs number blank) routes)
+    (λ k h. c.child-lower.ensures.as_made xs k t h) (λ k h. c.child-higher.ensures.as_made xs k t h))

@@ -1,0 +1,18 @@
+use Rattle.std.proofs.Common.{◌≡◌, ◌<◌, true, List, length, get_or, Some, Option, ap, ◌∙◌, subst, arith}
+use Rattle.std.proofs.lemmas.Bool.{ltb-true}
+use Rattle.engine.specs.declared.node.Verdict.{Verdict}
+use Rattle.engine.specs.declared.node.Node.{Node}
+use Rattle.tree.specs.Plans.{Plan}
+use Rattle.engine.specs.Table.{plan_of, empty, Follows}
+use Rattle.engine.specs.WellFormed.{inside}
+use Rattle.engine.proofs.Calling.{told_solution}
+use Rattle.engine.proofs.state.Engine.solved.Goals as goal
+
+pub returns-in-Solved : goal.returns-in-Solved
+returns-in-Solved c m t f =
+    let e = c.args.self.now in
+    let v = e.table.nodes in
+    let k = c.in-Solved.number in
+    let l : k < length v.items = omega (arith, ltb-true k v.len (subst (λ (w : Verdict). inside v.len w ≡ true) c.in-Solved.is e.solved), v.ok.0) in
+    ap {B = Option Plan} (λ (ns : List Node). Some (plan_of m.setting (get_or ns k empty).routes)) c.records.ensures.value
+    ∙ told_solution m v.items k t (subst (λ (w : Verdict). Follows m v.items w t) c.in-Solved.is f) l
