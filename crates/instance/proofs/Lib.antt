@@ -1,2 +1,4 @@
+pub mod Filled
 pub mod Making
 pub mod Past
+pub mod TwoSleds

@@ -10,18 +10,17 @@ use Rattle.geometry.proofs.Meetings.{stand_told}
 use Rattle.job.specs.declared.job.Job.{Job}
 use Rattle.plans.specs.Tasks.{task_of}
 use Rattle.instance.specs.declared.ends.Ends.{Ends}
-use Rattle.instance.specs.Ends.{EndsOf, both_stand}
+use Rattle.instance.specs.Ends.{ends_at, EndsOf, both_stand}
 use Rattle.instance.specs.Numbers.{Numbers}
 use Rattle.instance.specs.Worked.{AllStand, StandsTold}
 use Rattle.instance.specs.Instances.{EndsStand}
 
-module _ (job : Job) (sleds : Sleds) (floor : Floor) (standing : List (List Bool)) (told : StandsTold sleds floor standing) (ends : Ends) (of_job : EndsOf job ends) where
-  module _ (count : ℕ) (few : count ≤ 6) (all : (s : ℕ) → s < count → both_stand standing ends s ≡ true) where
-    pub all_start : AllStand sleds floor count ends.starts
-    all_start s below = sym (told s (get_or ends.starts s 0) (omega arith, (of_job.starts s).0)) ∙ (and_parts (get_or (get_or standing s []) (get_or ends.starts s 0) false) _ (all s below)).0
-
-    pub all_end : AllStand sleds floor count ends.goals
-    all_end s below = sym (told s (get_or ends.goals s 0) (omega arith, (of_job.goals s).0)) ∙ (and_parts (get_or (get_or standing s []) (get_or ends.starts s 0) false) _ (all s below)).1
+module _ (job : Job) (sleds : Sleds) (floor : Floor) (standing : List (List Bool)) (told : StandsTold sleds floor standing) (ends : List Ends) (of_job : EndsOf job ends) where
+  pub all_stand : (count : ℕ) → count ≤ 6 → ((s : ℕ) → s < count → both_stand standing ends s ≡ true) → AllStand sleds floor count ends
+  all_stand count few all s below =
+      let at = of_job s in
+      let (start, goal) = and_parts (get_or (get_or standing s []) (ends_at ends s).start false) _ (all s below) in
+      (sym (told s (ends_at ends s).start (omega arith, at.start.0)) ∙ start, sym (told s (ends_at ends s).goal (omega arith, at.goal.0)) ∙ goal)
 
   -- the fleet and the floor that the tables were made of have the offsets and the cells of the task
   module _ (offsets : Sleds) (near : AllNear offsets) (same : sleds ≡ offsets) (laid : floor ≡ job.floor) where
@@ -30,6 +29,6 @@ module _ (job : Job) (sleds : Sleds) (floor : Floor) (standing : List (List Bool
 
     pub ends_told : (s : ℕ) → s < 6 → Decides (both_stand standing ends s) (EndsStand (task_of job offsets) s)
     ends_told s few =
-        Decides-and (get_or (get_or standing s []) (get_or ends.starts s 0) false) (get_or (get_or standing s []) (get_or ends.goals s 0) false)
-        (at_number s (get_or ends.starts s 0) ((task_of job offsets).start s) few (of_job.starts s))
-        (at_number s (get_or ends.goals s 0) ((task_of job offsets).goal s) few (of_job.goals s))
+        Decides-and (get_or (get_or standing s []) (ends_at ends s).start false) (get_or (get_or standing s []) (ends_at ends s).goal false)
+        (at_number s (ends_at ends s).start ((task_of job offsets).start s) few (of_job s).start)
+        (at_number s (ends_at ends s).goal ((task_of job offsets).goal s) few (of_job s).goal)

@@ -6,7 +6,7 @@ use Rattle.job.specs.declared.sled_value.SledValue.{SledValue}
 use Rattle.job.specs.Facts.{facts}
 use Rattle.job.specs.Jobs.{smallest_sled}
 use Rattle.plans.specs.Tasks.{sled_of}
-use Rattle.instance.specs.Numbers.{Numbers}
+use Rattle.instance.specs.Ends.{EndsAre}
 
 module _ (job : Job) where
   counted : length (facts job).sleds ≡ job.sleds.count
@@ -18,7 +18,7 @@ module _ (job : Job) where
   pub few_sleds : length (facts job).sleds ≤ 6
   few_sleds = omega (arith, counted, job.sleds.few)
 
-  pub ends_past : (s : ℕ) → length (facts job).sleds ≤ s → Numbers 0 (sled_of job s).start × Numbers 0 (sled_of job s).goal
+  pub ends_past : (s : ℕ) → length (facts job).sleds ≤ s → EndsAre (sled_of job s) (record { start = 0; goal = 0 })
   ends_past s beyond =
       let last : sled_of job s ≡ smallest_sled = get_or_past (facts job).sleds s smallest_sled beyond in
-      ((omega arith, sym (ap (λ (v : SledValue). v.start) last)), (omega arith, sym (ap (λ (v : SledValue). v.goal) last)))
+      record { start = (omega arith, sym (ap (λ (v : SledValue). v.start) last)); goal = (omega arith, sym (ap (λ (v : SledValue). v.goal) last)) }

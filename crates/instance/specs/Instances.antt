@@ -1,5 +1,5 @@
 -- What an instance is to a search, and which jobs and fleets have one.
-use Rattle.std.specs.Prelude.{◌≡◌, ℕ, ◌<◌, ◌≤◌, ◌&&◌, ◌⊎◌, length, slice_index}
+use Rattle.std.specs.Prelude.{◌≡◌, ℕ, ◌<◌, ◌≤◌, ◌&&◌, ◌⊎◌, length}
 use Rattle.fault.specs.declared.cause.Cause.TheVariants.{FleetNotOfJob, CannotStand}
 use Rattle.fault.specs.declared.cause.Fault.{Fault}
 use Rattle.fault.specs.Causes.{fault_at}
@@ -18,6 +18,7 @@ use Rattle.engine.specs.Model.{Model}
 use Rattle.plans.specs.Tasks.{Task, task_of}
 use Rattle.plans.specs.Instance.{setting_of, stands_at, in_set}
 use Rattle.instance.specs.declared.instance.Instance.{Instance}
+use Rattle.instance.specs.Ends.{ends_at}
 
 -- what there is to plan
 abbrev pub task_in : Instance → Task
@@ -25,8 +26,8 @@ task_in i =
     record {
       sleds = i.fleet.count;
       horizon = i.horizon.steps;
-      start = λ s. position_at (slice_index i.starts s);
-      goal = λ s. position_at (slice_index i.goals s);
+      start = λ s. position_at (ends_at i.ends s).start;
+      goal = λ s. position_at (ends_at i.ends s).goal;
       floor = i.floor;
       offsets = tabled_sleds i.fleet;
     }

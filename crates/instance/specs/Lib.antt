@@ -1,6 +1,7 @@
-pub mod Worked
 pub mod Numbers
 pub mod Ends
+pub mod Worked
+pub mod Meetings
 pub mod Steps
 pub mod Instances
 pub mod Sets

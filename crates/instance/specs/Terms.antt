@@ -57,8 +57,8 @@ module _ (i : Instance) where
   task_terms =
       record {
         lasts = i.horizon.least;
-        starts = λ s below. of_floor (tabled_sleds i.fleet s) i.floor ((task_in i).start s) (i.starting s below);
-        goals = λ s below. of_floor (tabled_sleds i.fleet s) i.floor ((task_in i).goal s) (i.ending s below);
+        starts = λ s below. of_floor (tabled_sleds i.fleet s) i.floor ((task_in i).start s) (i.ends_stand s below).0;
+        goals = λ s below. of_floor (tabled_sleds i.fleet s) i.floor ((task_in i).goal s) (i.ends_stand s below).1;
         fleet = tabled_terms i.fleet;
       }
 

@@ -3,6 +3,7 @@
 
 mod ends;
 pub mod instance;
+mod meeting;
 mod pairs;
 pub mod ruled;
 mod standings;

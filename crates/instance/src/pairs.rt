@@ -2,28 +2,33 @@
 ghost use Rattle.std.specs.Prelude.{◌<◌};
 ghost use Rattle.tables.specs.TabledFleets.{tabled_sleds};
 ghost use Rattle.tables.specs.DifferenceSets.{DifferencesOf};
-ghost use Rattle.instance.specs.Worked.{PairsTold};
+ghost use Rattle.instance.specs.Worked.{RowTold, PairsTold};
 
 use fleet::{Fleet, MAX_SLEDS};
+use std::array;
 use tables::differences::Differences;
 use tables::tabled::Tabled;
-
-// One for every two sleds: at number 6 · i + j the one of sled i and sled j.
-pub(crate) const PAIRS: usize = 36;
 
 // A number that no sled has.
 const NO_SLED: u8 = 6;
 
-// Only the pairs of a lower and a higher sled are asked for.
-pub(crate) fn pairs_of(fleet: &Tabled) -> [Differences; PAIRS]
+// At [i][j] the differences of sled i and sled j: only those of a lower and a higher sled are asked for.
+pub(crate) fn pairs_of(fleet: &Tabled) -> [[Differences; MAX_SLEDS]; MAX_SLEDS]
     ensures { PairsTold (tabled_sleds fleet.now) fleet.now.count result }
 {
     let empty = Differences::of(fleet, NO_SLED, NO_SLED);
-    let mut pairs = [empty; PAIRS];
-    for number in 0..PAIRS {
-        pairs[number] = pair_of(fleet, number / MAX_SLEDS, number % MAX_SLEDS, empty);
-    }
-    pairs
+    array::from_fn(
+        |i|
+            ensures { RowTold (tabled_sleds fleet.entry.now) fleet.entry.now.count i result }
+        { row_of(fleet, i, empty) },
+    )
+}
+
+// The differences of one sled and each other.
+fn row_of(fleet: &Tabled, i: usize, empty: Differences) -> [Differences; MAX_SLEDS]
+    ensures { RowTold (tabled_sleds fleet.now) fleet.now.count i result }
+{
+    array::from_fn(|j| pair_of(fleet, i, j, empty))
 }
 
 // The differences of a lower and a higher sled of the fleet, or else the other table.

@@ -8,45 +8,45 @@ ghost use Rattle.instance.specs.Sets.{split_terms};
 ghost use Rattle.instance.specs.Terms.{keeps_terms};
 
 use crate::instance::Instance;
+use crate::meeting::pair_at;
 use engine::node::PlaceSet;
 use engine::problem::Problem;
 use engine::side::Side;
-use fleet::{Fleet, MAX_SLEDS};
 use grid::place::{BOARD_PLACES, Place};
 use split::pair::Pair;
 use split::{SplitRule, pair};
+use std::array;
 use walk::horizon::Horizon;
 
 #[derive(Drop)]
-pub struct Ruled<R> {
-    pub instance: Instance,
-    pub rule: R,
+pub struct Ruled<'a, R> {
+    pub instance: &'a Instance,
+    pub rule: &'a R,
 }
 
-impl<R: SplitRule> Ruled<R> {
+impl<R: SplitRule> Ruled<'_, R> {
     // The set of a side.
     fn set_of(&self, side: Side, pair: Pair) -> PlaceSet
-        ensures places { (w : ℕ) → w < 256 → slice_index_or result w false ≡ R.SplitRule.sets self.now.rule (situation self.now.instance.fleet.count (tabled_sleds self.now.instance.fleet) pair) (side_of side) (position_at w) }
+        ensures places { (w : ℕ) → w < 256 → slice_index_or result w false ≡ R.SplitRule.sets self.now.rule.now (situation self.now.instance.now.fleet.count (tabled_sleds self.now.instance.now.fleet) pair) (side_of side) (position_at w) }
         ensures size { length result ≡ 256 }
     {
-        let mut set = [false; BOARD_PLACES];
-        for number in 0..BOARD_PLACES {
-            set[number] = self.holds(side, pair, Place::from(number as u8));
-        }
-        set
+        array::from_fn(
+            |number|
+                requires { number < 256 }
+            { self.holds(side, pair, Place::from(number as u8)) },
+        )
     }
 
     // Whether a place is in the set of a side. At such a place the sled still meets the other, so the rule is asked of no others.
     fn holds(&self, side: Side, pair: Pair, w: Place) -> bool
-        ensures { result ≡ R.SplitRule.sets self.now.rule (situation self.now.instance.fleet.count (tabled_sleds self.now.instance.fleet) pair) (side_of side) (position_of w) }
+        ensures { result ≡ R.SplitRule.sets self.now.rule.now (situation self.now.instance.now.fleet.count (tabled_sleds self.now.instance.now.fleet) pair) (side_of side) (position_of w) }
     {
-        let (i, j) = (pair.i as usize, pair.j as usize);
         match side {
-            Side::First => self.instance.share_cell(i, j, w, pair.v)
+            Side::First => self.instance.share_cell(Pair { u: w, ..pair })
                 && self
                     .rule
                     .contains(self.instance.fleet(), pair, pair::Side::Lower, w),
-            Side::Second => self.instance.share_cell(i, j, pair.u, w)
+            Side::Second => self.instance.share_cell(Pair { v: w, ..pair })
                 && self
                     .rule
                     .contains(self.instance.fleet(), pair, pair::Side::Upper, w),
@@ -54,14 +54,14 @@ impl<R: SplitRule> Ruled<R> {
     }
 }
 
-impl<R: SplitRule> Problem for Ruled<R> {
-    ghost model = { λ p. model_of (task_in p.instance) (R.SplitRule.sets p.rule) };
+impl<R: SplitRule> Problem for Ruled<'_, R> {
+    ghost model = { λ p. model_of (task_in p.instance.now) (R.SplitRule.sets p.rule.now) };
 
     ghost keeps = { λ p.
-        let r = p.rule in
+        let r = p.rule.now in
         let rule = R.SplitRule in
         let sets = R.SplitRule.sets r in
-        keeps_terms p.instance sets (split_terms sets (rule.lower r) (rule.upper r) (rule.share r) (rule.only r)) };
+        keeps_terms p.instance.now sets (split_terms sets (rule.lower r) (rule.upper r) (rule.share r) (rule.only r)) };
 
     fn sleds(&self) -> usize {
         self.instance.sleds()
@@ -92,15 +92,9 @@ impl<R: SplitRule> Problem for Ruled<R> {
     }
 
     fn splits(&self, side: Side, i: usize, j: usize, u: u8, v: u8) -> PlaceSet {
-        if i >= MAX_SLEDS || j >= MAX_SLEDS {
-            return [false; BOARD_PLACES];
+        match pair_at(i, j, u, v) {
+            Some(pair) => self.set_of(side, pair),
+            None => [false; BOARD_PLACES],
         }
-        let pair = Pair {
-            i: i as u8,
-            j: j as u8,
-            u: Place::from(u),
-            v: Place::from(v),
-        };
-        self.set_of(side, pair)
     }
 }

@@ -1,5 +1,6 @@
 -- How long the plan of a solved tree lasts.
-use Rattle.std.proofs.Common.{◌≡◌, ℕ, List, Some, None, Ok, Err, Option, sym, refl, subst}
+use Rattle.std.proofs.Common.{◌≡◌, ℕ, List, Option, sym, refl, ap, subst}
+use Rattle.std.specs.Option.{ok_or}
 use Rattle.fault.specs.declared.cause.Cause.TheVariants.{NotSolved}
 use Rattle.fault.specs.Causes.{fault_at}
 use Rattle.split.specs.Situations.{Sets}
@@ -16,22 +17,18 @@ use Rattle.plans.proofs.Plans.{makespans_carry_over}
 use Rattle.instance.specs.Instances.{task_in, model_of}
 use Rattle.instance.specs.Terms.{task_terms}
 use Rattle.search.specs.declared.state.Search.{Search}
+use Rattle.search.specs.declared.state.Opened.{Opened}
 use Rattle.search.specs.States.{tree_after, OpenedAt}
 use Rattle.search.specs.Telling.{last_told, IsGreatestCost}
 use Rattle.search.proofs.Ending.{routes_nth}
+use Rattle.search.proofs.Going.{same_task}
 
 -- the engine's answer in the words of a search
-pub told_last : (K : Task) (nodes : List Node) (v : Verdict) (m : ℕ) → Some m ≡ makespan_told (setting_of K) nodes v → Ok m ≡ last_told K nodes v
-told_last K nodes working m e = cc
-told_last K nodes (solved k) m e = cc
-told_last K nodes none m e = cc
-told_last K nodes full m e = cc
-
-pub told_no_last : (K : Task) (nodes : List Node) (v : Verdict) → None ≡ makespan_told (setting_of K) nodes v → Err (fault_at NotSolved 0) ≡ last_told K nodes v
-told_no_last K nodes working e = refl
-told_no_last K nodes (solved k) e = cc
-told_no_last K nodes none e = refl
-told_no_last K nodes full e = refl
+told_last : (K : Task) (nodes : List Node) (v : Verdict) (r : Option ℕ) → r ≡ makespan_told (setting_of K) nodes v → ok_or r (fault_at NotSolved 0) ≡ last_told K nodes v
+told_last K nodes working r e = ap (λ o. ok_or o (fault_at NotSolved 0)) e
+told_last K nodes (solved k) r e = ap (λ o. ok_or o (fault_at NotSolved 0)) e
+told_last K nodes none r e = ap (λ o. ok_or o (fault_at NotSolved 0)) e
+told_last K nodes full r e = ap (λ o. ok_or o (fault_at NotSolved 0)) e
 
 -- a solved tree's routes are a plan, whose makespan is its greatest cost
 module _ (K : Task) (terms : TaskTerms K) (sets : Sets) (split : SplitTerms sets) (limit n : ℕ) where
@@ -48,14 +45,15 @@ module _ (K : Task) (terms : TaskTerms K) (sets : Sets) (split : SplitTerms sets
   greatest_cost full e = tt
 
 -- what the engine says of its problem holds of the task that is open
-module _ {F R : Type 0} (sets : R → Sets) (s : Search F R) (K : Task) (limit n : ℕ) (o : OpenedAt sets s K limit n) where
-  pub told_at : (r : Option ℕ) →
-      ((t : Tree) → IsAt (model_of (task_in s.problem.instance) (sets s.problem.rule)) s.engine t → r ≡ makespan_told (setting_of (task_in s.problem.instance)) t.nodes t.verdict) →
-      r ≡ makespan_told (setting_of K) (tree_after sets s K limit n).nodes (tree_after sets s K limit n).verdict
-  told_at r h =
-      subst (λ (k : Task). (t : Tree) → IsAt (model_of k (sets s.problem.rule)) s.engine t → r ≡ makespan_told (setting_of k) t.nodes t.verdict) o.task h
-      (tree_after sets s K limit n) o.tree_is
+module _ {F R : Type 0} (sets : R → Sets) (s : Search F R) (x : Opened) (K : Task) (limit n : ℕ) (o : OpenedAt sets s K limit n) (held : o.holds ≡ x) where
+  pub lasts_at : (r : Option ℕ) →
+      ((t : Tree) → IsAt (model_of (task_in x.instance) (sets s.rule)) s.engine t → r ≡ makespan_told (setting_of (task_in x.instance)) t.nodes t.verdict) →
+      ok_or r (fault_at NotSolved 0) ≡ last_told K (tree_after sets s K limit n).nodes (tree_after sets s K limit n).verdict
+  lasts_at r h =
+      let t = tree_after sets s K limit n in
+      told_last K t.nodes t.verdict r
+      (subst (λ (k : Task). (t : Tree) → IsAt (model_of k (sets s.rule)) s.engine t → r ≡ makespan_told (setting_of k) t.nodes t.verdict) (same_task sets s x K limit n o held) h t o.tree_is)
 
-  pub greatest_cost_at : SplitTerms (sets s.problem.rule) → IsGreatestCost K (tree_after sets s K limit n).nodes (tree_after sets s K limit n).verdict
+  pub greatest_cost_at : SplitTerms (sets s.rule) → IsGreatestCost K (tree_after sets s K limit n).nodes (tree_after sets s K limit n).verdict
   greatest_cost_at split =
-      greatest_cost K (subst (λ (k : Task). TaskTerms k) o.task (task_terms s.problem.instance)) (sets s.problem.rule) split limit n (tree_after sets s K limit n).verdict refl
+      greatest_cost K (subst (λ (k : Task). TaskTerms k) (same_task sets s x K limit n o held) (task_terms x.instance)) (sets s.rule) split limit n (tree_after sets s K limit n).verdict refl

@@ -1,6 +1,7 @@
 pub mod Turns
 pub mod Replies
 pub mod Going
+pub mod Advancing
 pub mod Answering
 pub mod Running
 pub mod Counting

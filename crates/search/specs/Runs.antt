@@ -24,7 +24,7 @@ module _ {F R : Type 0} (size : F → ℕ) (offsets : F → Sleds) (sets : R →
     pub was_idle : Idle before
     pub events : List Event
     pub told : AreAnswers events answers
-    pub promise : Promise (asked offsets job before) (sets before.problem.rule) (facts job).limit (map call_of calls) events
+    pub promise : Promise (asked offsets job before) (sets before.rule) (facts job).limit (map call_of calls) events
     pub goes : OpenedAt sets after (asked offsets job before) (facts job).limit (granted events)
     pub same : SameParts before after
 

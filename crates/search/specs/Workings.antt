@@ -1,13 +1,16 @@
 -- Words of the inner contracts; no public contract cites them.
-use Rattle.std.specs.Prelude.{◌≡◌, ℕ, suc, ◌+◌, ◌<◌, ◌≤◌, List, [], map, length, take, Some, None, Option, slice_index_or}
+use Rattle.std.specs.Prelude.{◌≡◌, ℕ, suc, ◌+◌, ◌<◌, List, [], map, length, take, Some, None, Option, slice_index_or}
 use Rattle.lines.specs.declared.outcome.Outcome.{Outcome}
 use Rattle.lines.specs.declared.outcome.Outcome.TheVariants.{Solved, NoPlan, Full}
 use Rattle.split.specs.Situations.{Sets}
 use Rattle.tree.specs.Plans.{route}
 use Rattle.tree.specs.Search as search
-use Rattle.tree.specs.Tree.{Verdict, working, solved, none, full, bound, turns}
+use Rattle.tree.specs.Tree.{Tree, Verdict, working, solved, none, full, bound, turns}
 use Rattle.tree.specs.Calls as tree
 use Rattle.tree.specs.Law.{granted, count}
+use Rattle.engine.specs.declared.state.Engine.{Engine}
+use Rattle.engine.specs.Engine.{IsAt}
+use Rattle.engine.specs.Model.{Model}
 use Rattle.plans.specs.Tasks.{Task}
 use Rattle.plans.specs.Instance.{setting_of}
 use Rattle.search.specs.declared.call.Call.{Call}
@@ -15,13 +18,6 @@ use Rattle.search.specs.declared.call.Answer.{Answer}
 use Rattle.search.specs.declared.state.Search.{Search}
 use Rattle.search.specs.Words.{call_of, IsAnswer, AreAnswers}
 use Rattle.search.specs.States.{planning, tree_after, OpenedAt, ByState, SameParts}
-
--- A search makes so many turns, if it is open.
-pub record MakesTurns {F R : Type 0} (sets : R → Sets) (before after : Search F R) (count made : ℕ) : Type 0 where
-  pub turns_are : (K : Task) (limit n : ℕ) → OpenedAt sets before K limit n → made ≡ tree.made_by (planning sets before K) limit count (tree_after sets before K limit n)
-  pub few : (K : Task) (limit n : ℕ) → OpenedAt sets before K limit n → made ≤ suc limit
-  pub goes : (K : Task) (limit n : ℕ) → OpenedAt sets before K limit n → OpenedAt sets after K limit (n + count)
-  pub same : SameParts before after
 
 -- the calls and answers of the tree, from the root on
 abbrev pub events_of : search.Search → (limit : ℕ) → List Call → List tree.Event
@@ -67,11 +63,12 @@ module _ {F R : Type 0} (sets : R → Sets) (s : Search F R) where
   abbrev pub TellsSum : ℕ → Type 0
   TellsSum m = (K : Task) (limit n : ℕ) → OpenedAt sets s K limit n → m ≡ or_0 (bound (setting_of K) (tree_after sets s K limit n))
 
-  -- the route of a sled in the solved node, up to the horizon
+-- The engine is at a tree of the model.
+module _ (m : Model) (e : Engine) where
+  -- the route of a sled in the node that solves the tree, up to the horizon
   abbrev pub TellsRoute : (sled : ℕ) → List ℕ → Type 0
   TellsRoute sled r =
-      (K : Task) (limit n k : ℕ) → OpenedAt sets s K limit n → (tree_after sets s K limit n).verdict ≡ solved k → sled < K.sleds →
-      take (suc K.horizon) r ≡ route (tree.routes_at (tree_after sets s K limit n).nodes k) sled
+      (t : Tree) (k : ℕ) → IsAt m e t → t.verdict ≡ solved k → sled < m.setting.sleds → take (suc m.setting.horizon) r ≡ route (tree.routes_at t.nodes k) sled
 
   -- the routes of the first so many sleds
   pub record TellsRoutes (sleds : ℕ) (routes : List (List ℕ)) : Type 0 where

@@ -1,11 +1,11 @@
 // The turns of a search.
 ghost use Rattle.search.specs.Advancing.{Advances};
-ghost use Rattle.search.specs.Workings.{MakesTurns};
 
 use crate::Search;
-use crate::verdict::Verdict;
+use engine::call::Status;
 use fault::cause::{Cause, Fault};
 use fleet::Fleet;
+use instance::ruled::Ruled;
 use split::SplitRule;
 
 impl<F: Fleet, R: SplitRule> Search<F, R> {
@@ -13,26 +13,22 @@ impl<F: Fleet, R: SplitRule> Search<F, R> {
     pub fn advance(&mut self, count: u32) -> Result<u32, Fault>
         ensures { Advances R.SplitRule.sets self.old self.new count result }
     {
-        match self.verdict() {
-            Verdict::Working => {}
-            _ => return Err(Cause::WrongState.at(0)),
-        }
+        let Some(opened) = self.opened.as_mut() else {
+            return Err(Cause::WrongState.at(0));
+        };
+        // By hand: a refusal leaves the search as it was, which the engine does not promise of its own.
+        let Status::Working = self.engine.verdict() else {
+            return Err(Cause::WrongState.at(0));
+        };
         if count == 0 {
             return Err(Cause::NoTurns.at(0));
         }
-        Ok(self.make_turns(count))
-    }
-
-    // Makes turns. The engine refuses only where there are none to make.
-    fn make_turns(&mut self, count: u32) -> u32
-        ensures { MakesTurns R.SplitRule.sets self.old self.new count result }
-    {
-        match self.engine.advance(&self.problem, count) {
-            Ok(made) => {
-                self.turns = self.turns.saturating_add(made);
-                made
-            }
-            Err(_) => 0,
-        }
+        let problem = Ruled {
+            instance: &opened.instance,
+            rule: &self.rule,
+        };
+        let made = self.engine.advance(&problem, count).unwrap_or(0);
+        opened.turns = opened.turns.saturating_add(made);
+        Ok(made)
     }
 }

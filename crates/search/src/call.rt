@@ -1,7 +1,11 @@
 // Calls that can be made one after the other, and their answers.
+ghost use Rattle.std.specs.Prelude.{◌≡◌};
+ghost use Rattle.search.specs.declared.call.RunError.TheVariants.{NoMemory, Refused};
+
 use crate::verdict::Verdict;
 use fault::cause::Fault;
 use grid::place::Place;
+use std::alloc::AllocError;
 
 // Make so many turns; tell the bound; tell the verdict; tell the place of a sled at an instant.
 #[derive(Clone, Copy)]
@@ -26,4 +30,20 @@ pub enum Answer {
 pub enum RunError {
     NoMemory,
     Refused(Fault),
+}
+
+impl From<AllocError> for RunError {
+    ghost from_gives = { λ _ error. error ≡ NoMemory };
+
+    fn from(_error: AllocError) -> RunError {
+        RunError::NoMemory
+    }
+}
+
+impl From<Fault> for RunError {
+    ghost from_gives = { λ fault error. error ≡ Refused fault };
+
+    fn from(fault: Fault) -> RunError {
+        RunError::Refused(fault)
+    }
 }

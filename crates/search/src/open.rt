@@ -4,6 +4,7 @@ ghost use Rattle.search.specs.States.{New};
 ghost use Rattle.search.specs.Opening.{Opens};
 
 use crate::Search;
+use crate::state::Opened;
 use engine::Engine;
 use fault::cause::{Cause, Fault};
 use fleet::Fleet;
@@ -20,14 +21,10 @@ impl<F: Fleet + Drop, R: SplitRule + Drop> Search<F, R> {
     {
         let engine = Engine::new(heap)?;
         Ok(Search {
+            opened: None,
             fleet,
-            problem: Ruled {
-                instance: Instance::none(),
-                rule,
-            },
+            rule,
             engine,
-            is_idle: true,
-            turns: 0,
         })
     }
 }
@@ -37,21 +34,23 @@ impl<F: Fleet, R: SplitRule> Search<F, R> {
     pub fn open(&mut self, job: &Job) -> Result<(), Fault>
         ensures { Opens F.Fleet.size F.Fleet.offsets R.SplitRule.sets job.now self.old self.new result }
     {
-        if !self.is_idle {
+        if self.opened.is_some() {
             return Err(Cause::SearchNotIdle.at(0));
         }
-        self.problem.instance = Instance::of(job, &self.fleet)?;
-        self.engine.open(&self.problem, job.limit());
-        self.is_idle = false;
-        self.turns = 0;
+        let instance = Instance::of(job, &self.fleet)?;
+        let problem = Ruled {
+            instance: &instance,
+            rule: &self.rule,
+        };
+        self.engine.open(&problem, job.limit());
+        self.opened = Some(Opened { instance, turns: 0 });
         Ok(())
     }
 
     // Makes the search idle again.
     pub fn clear(&mut self)
-        ensures { New self.old.fleet self.old.problem.rule self.new }
+        ensures { New self.old.fleet self.old.rule self.new }
     {
-        self.is_idle = true;
-        self.turns = 0;
+        self.opened = None;
     }
 }

@@ -4,28 +4,38 @@ ghost use Rattle.search.specs.Workings.{TellsOutcome, TellsSum, TellsRoute, Tell
 
 use crate::Search;
 use crate::verdict::Verdict;
+use engine::Engine;
 use engine::node::Route;
 use engine::problem::Problem;
 use fault::cause::{Cause, Fault};
 use fleet::Fleet;
+use instance::ruled::Ruled;
 use lines::outcome::Outcome;
 use lines::report::{MAX_INSTANTS, MAX_SLEDS, Report, write_report};
 use split::SplitRule;
+use std::array;
 
 impl<F: Fleet, R: SplitRule> Search<F, R> {
     // Writes the lines from the front of the buffer, and answers their length.
     pub fn print(&self, out: &mut [u8]) -> Result<usize, Fault>
         ensures { Prints out.old out.new result R.SplitRule.sets self.now }
     {
+        let Some(opened) = &self.opened else {
+            return Err(Cause::WrongState.at(0));
+        };
         let Some(outcome) = self.outcome() else {
             return Err(Cause::WrongState.at(0));
         };
+        let problem = Ruled {
+            instance: &opened.instance,
+            rule: &self.rule,
+        };
         let report = Report {
             outcome,
-            turns: self.turns as usize,
-            routes: self.plan(),
-            sleds: self.problem.sleds() as u8,
-            last: self.problem.horizon().steps,
+            turns: opened.turns as usize,
+            routes: plan(&self.engine, &problem),
+            sleds: problem.sleds() as u8,
+            last: problem.horizon().steps,
         };
         write_report(&report, out)
     }
@@ -35,8 +45,7 @@ impl<F: Fleet, R: SplitRule> Search<F, R> {
         ensures { TellsOutcome R.SplitRule.sets self.now result }
     {
         match self.verdict() {
-            Verdict::Idle => None,
-            Verdict::Working => None,
+            Verdict::Idle | Verdict::Working => None,
             Verdict::Solved => Some(Outcome::Solved {
                 sum: self.least_sum(),
             }),
@@ -51,30 +60,24 @@ impl<F: Fleet, R: SplitRule> Search<F, R> {
     fn least_sum(&self) -> usize
         ensures { TellsSum R.SplitRule.sets self.now result }
     {
-        match self.engine.bound() {
-            Some(sum) => sum as usize,
-            None => 0,
-        }
+        self.engine.bound().map_or(0, |sum| sum as usize)
     }
+}
 
-    // The routes of the solved node; there are more of them, and longer ones, than count.
-    fn plan(&self) -> [Route; MAX_SLEDS]
-        ensures { TellsRoutes R.SplitRule.sets self.now 6 result }
-    {
-        let mut routes = [[0; MAX_INSTANTS]; MAX_SLEDS];
-        for sled in 0..MAX_SLEDS {
-            routes[sled] = self.route(sled);
-        }
-        routes
-    }
+// The routes of the solved node; there are more of them, and longer ones, than count.
+fn plan<P: Problem>(engine: &Engine, problem: &P) -> [Route; MAX_SLEDS]
+    ensures { TellsRoutes (P.Problem.model problem.now) engine.now 6 result }
+{
+    array::from_fn(
+        |sled|
+            ensures { TellsRoute (P.Problem.model problem.entry.now) engine.entry.now sled result }
+        { route(engine, problem, sled) },
+    )
+}
 
-    // The route of a sled in the solved node, in front of instants that do not count.
-    fn route(&self, sled: usize) -> Route
-        ensures { TellsRoute R.SplitRule.sets self.now sled result }
-    {
-        match self.engine.route(&self.problem, sled) {
-            Some(route) => route,
-            None => [0; MAX_INSTANTS],
-        }
-    }
+// The route of a sled in the solved node, in front of instants that do not count.
+fn route<P: Problem>(engine: &Engine, problem: &P, sled: usize) -> Route
+    ensures { TellsRoute (P.Problem.model problem.now) engine.now sled result }
+{
+    engine.route(problem, sled).unwrap_or([0; MAX_INSTANTS])
 }

@@ -5,12 +5,14 @@ use crate::Search;
 use engine::problem::Problem;
 use fault::cause::{Cause, Fault};
 use fleet::Fleet;
+use instance::ruled::Ruled;
 use split::SplitRule;
 use walk::count::Count;
 use walk::tally::count_routes;
 use walk::weight::Steps;
 
-// The steps of a sled under no constraints.
+// The steps of a sled under no constraints. The engine has its own, under those of a node: one for both would carry a table that is
+// always empty here.
 #[derive(Drop)]
 struct SledSteps<'a, P> {
     problem: &'a P,
@@ -31,14 +33,20 @@ impl<F: Fleet, R: SplitRule> Search<F, R> {
     pub fn routes(&self, sled: usize, row: &mut [Count], spare: &mut [Count]) -> Result<u16, Fault>
         ensures { Counts sled row.old spare.old row.new spare.new R.SplitRule.sets self.now result }
     {
-        if self.is_idle {
+        let Some(opened) = &self.opened else {
             return Err(Cause::WrongState.at(0));
-        }
-        let problem = &self.problem;
+        };
+        let problem = Ruled {
+            instance: &opened.instance,
+            rule: &self.rule,
+        };
         if sled >= problem.sleds() {
             return Err(Cause::NumberTooHigh.at(0));
         }
-        let steps = SledSteps { problem, sled };
+        let steps = SledSteps {
+            problem: &problem,
+            sled,
+        };
         count_routes(
             &steps,
             problem.start(sled),

@@ -17,13 +17,9 @@ impl<F: Fleet, R: SplitRule> Search<F, R> {
     pub fn run(&mut self, heap: Global, job: &Job, calls: &[Call]) -> Result<Vec<Answer>, RunError>
         ensures { Runs F.Fleet.size F.Fleet.offsets R.SplitRule.sets job.now calls.now self.old self.new result }
     {
-        let Ok(answers) = Vec::with_capacity(heap, calls.len()) else {
-            return Err(RunError::NoMemory);
-        };
-        match self.open(job) {
-            Ok(_) => Ok(self.make_calls(calls, answers)),
-            Err(fault) => Err(RunError::Refused(fault)),
-        }
+        let answers = Vec::with_capacity(heap, calls.len())?;
+        self.open(job)?;
+        Ok(self.make_calls(calls, answers))
     }
 
     // Makes the calls and writes down the answers, for which there is room.

@@ -3,10 +3,11 @@ ghost use Rattle.search.specs.Telling.{TellsBound, TellsVerdict, TellsPlace, Tel
 
 use crate::Search;
 use crate::verdict::Verdict;
-use crate::words::{told_as_fault, told_as_verdict};
+use crate::words::told_as_fault;
 use fault::cause::{Cause, Fault};
 use fleet::Fleet;
 use grid::place::Place;
+use instance::ruled::Ruled;
 use split::SplitRule;
 
 impl<F: Fleet, R: SplitRule> Search<F, R> {
@@ -14,44 +15,50 @@ impl<F: Fleet, R: SplitRule> Search<F, R> {
     pub fn bound(&self) -> Result<Option<u16>, Fault>
         ensures { TellsBound R.SplitRule.sets self.now result }
     {
-        if self.is_idle {
-            return Err(Cause::WrongState.at(0));
+        match self.opened {
+            Some(_) => Ok(self.engine.bound()),
+            None => Err(Cause::WrongState.at(0)),
         }
-        Ok(self.engine.bound())
     }
 
     pub fn verdict(&self) -> Verdict
         ensures { TellsVerdict R.SplitRule.sets self.now result }
     {
-        if self.is_idle {
-            return Verdict::Idle;
+        match self.opened {
+            Some(_) => Verdict::from(self.engine.verdict()),
+            None => Verdict::Idle,
         }
-        told_as_verdict(self.engine.verdict())
     }
 
     // Where a sled is at an instant in the solved node.
     pub fn place(&self, sled: usize, instant: usize) -> Result<Place, Fault>
         ensures { TellsPlace R.SplitRule.sets self.now sled instant result }
     {
-        if self.is_idle {
+        let Some(opened) = &self.opened else {
             return Err(Cause::NotSolved.at(0));
-        }
-        match self.engine.place(&self.problem, sled, instant) {
-            Ok(number) => Ok(Place::from(number)),
-            Err(refusal) => Err(told_as_fault(refusal)),
-        }
+        };
+        let problem = Ruled {
+            instance: &opened.instance,
+            rule: &self.rule,
+        };
+        let number = self
+            .engine
+            .place(&problem, sled, instant)
+            .map_err(told_as_fault)?;
+        Ok(Place::from(number))
     }
 
     // The greatest cost of a route in the solved node: the instant from which on every sled stays at its goal.
     pub fn makespan(&self) -> Result<u8, Fault>
         ensures { TellsMakespan R.SplitRule.sets self.now result }
     {
-        if self.is_idle {
+        let Some(opened) = &self.opened else {
             return Err(Cause::NotSolved.at(0));
-        }
-        match self.engine.makespan(&self.problem) {
-            Some(last) => Ok(last),
-            None => Err(Cause::NotSolved.at(0)),
-        }
+        };
+        let problem = Ruled {
+            instance: &opened.instance,
+            rule: &self.rule,
+        };
+        self.engine.makespan(&problem).ok_or(Cause::NotSolved.at(0))
     }
 }

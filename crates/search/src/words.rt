@@ -7,17 +7,21 @@ use crate::verdict::Verdict;
 use engine::call::{Refusal, Status};
 use fault::cause::{Cause, Fault};
 
-pub(crate) fn told_as_verdict(status: Status) -> Verdict
-    ensures { result ≡ verdict_of (engine.status_of status) }
-{
-    match status {
-        Status::Working => Verdict::Working,
-        Status::Solved => Verdict::Solved,
-        Status::Unsolvable => Verdict::NoPlan,
-        Status::Full => Verdict::Full,
+// The verdict on what is opened.
+impl From<Status> for Verdict {
+    ghost from_gives = { λ status verdict. verdict ≡ verdict_of (engine.status_of status) };
+
+    fn from(status: Status) -> Verdict {
+        match status {
+            Status::Working => Verdict::Working,
+            Status::Solved => Verdict::Solved,
+            Status::Unsolvable => Verdict::NoPlan,
+            Status::Full => Verdict::Full,
+        }
     }
 }
 
+// By hand: an `impl From<Refusal> for Fault` can stand only where the one or the other is declared.
 pub(crate) fn told_as_fault(refusal: Refusal) -> Fault
     ensures { result ≡ fault_of (engine.refusal_of refusal) }
 {

@@ -1,19 +1,23 @@
 // What an instance tells, by numbers of sleds and places.
-ghost use Rattle.std.specs.Prelude.{◌≡◌, ◌||◌};
-ghost use Rattle.grid.specs.Places.{number_of, position_of};
+ghost use Rattle.std.specs.Prelude.{◌≡◌, ◌||◌, IfSome};
+ghost use Rattle.grid.specs.Places.{number_of, position_of, position_at};
 ghost use Rattle.geometry.specs.Shares.{share_cell};
 ghost use Rattle.geometry.specs.Collisions.{collide};
+ghost use Rattle.tables.specs.DifferenceSets.{DifferencesOf};
 ghost use Rattle.tables.specs.TabledFleets.{tabled_sleds};
 ghost use Rattle.plans.specs.Instance.{stands_at, meets_at, collides_in};
 ghost use Rattle.instance.specs.Instances.{task_in};
 
 use crate::instance::Instance;
+use crate::meeting::pair_at;
 use crate::step::move_between;
-use fleet::{Fleet, MAX_SLEDS};
+use fleet::Fleet;
 use geometry::collision::collides;
 use geometry::sharing::shares_cell;
 use grid::moves::Move;
 use grid::place::Place;
+use split::pair::Pair;
+use tables::differences::Differences;
 use tables::tabled::Tabled;
 use walk::horizon::Horizon;
 
@@ -39,58 +43,54 @@ impl Instance {
     pub(crate) fn start(&self, sled: usize) -> u8
         ensures { result ≡ number_of ((task_in self.now).start sled) }
     {
-        if sled >= MAX_SLEDS {
-            return 0;
-        }
-        self.starts[sled]
+        self.ends.get(sled).map_or(0, |ends| ends.start)
     }
 
     pub(crate) fn goal(&self, sled: usize) -> u8
         ensures { result ≡ number_of ((task_in self.now).goal sled) }
     {
-        if sled >= MAX_SLEDS {
-            return 0;
-        }
-        self.goals[sled]
+        self.ends.get(sled).map_or(0, |ends| ends.goal)
     }
 
     // A sled that the fleet does not have may stand at every place of the floor.
     pub(crate) fn stands(&self, sled: usize, place: u8) -> bool
         ensures { result ≡ stands_at (task_in self.now) sled place }
     {
-        if sled >= MAX_SLEDS {
-            return self.floor.has(Place::from(place));
-        }
-        self.standing[sled][place as usize]
-    }
-
-    // Whether sled i at u and sled j at v share a cell.
-    pub(crate) fn share_cell(&self, i: usize, j: usize, u: Place, v: Place) -> bool
-        ensures { result ≡ share_cell (tabled_sleds self.now.fleet i) (position_of u) (tabled_sleds self.now.fleet j) (position_of v) }
-    {
-        let count = self.sleds();
-        if i >= count || j >= count {
-            return false;
-        }
-        if i < j {
-            self.pairs[MAX_SLEDS * i + j].shares_cell(u, v)
-        } else {
-            shares_cell(&self.fleet, i as u8, u, j as u8, v)
+        match self.standing.get(sled) {
+            Some(places) => places[place as usize],
+            None => self.floor.has(Place::from(place)),
         }
     }
 
-    // Whether sled i, moving by a from u, and sled j, moving by b from v, collide.
-    fn collide_moving(&self, i: usize, j: usize, u: Place, a: Move, v: Place, b: Move) -> bool
-        ensures { result ≡ collide (tabled_sleds self.now.fleet i) (position_of u) a (tabled_sleds self.now.fleet j) (position_of v) b }
+    // The differences of a lower and a higher sled of the fleet.
+    fn differences(&self, pair: Pair) -> Option<&Differences>
+        ensures { IfSome result (λ d. ∥ DifferencesOf (tabled_sleds self.now.fleet pair.i) (tabled_sleds self.now.fleet pair.j) d.now ∥₁) }
     {
-        let count = self.sleds();
-        if i >= count || j >= count {
-            return false;
-        }
-        if i < j {
-            self.pairs[MAX_SLEDS * i + j].collides(u, a, v, b)
+        if pair.i < pair.j && pair.j < self.fleet.count() {
+            let row = self.pairs.get(pair.i as usize)?;
+            row.get(pair.j as usize)
         } else {
-            collides(&self.fleet, i as u8, u, a, j as u8, v, b)
+            None
+        }
+    }
+
+    // Whether the two sleds share a cell.
+    pub(crate) fn share_cell(&self, pair: Pair) -> bool
+        ensures { result ≡ share_cell (tabled_sleds self.now.fleet pair.i) (position_of pair.u) (tabled_sleds self.now.fleet pair.j) (position_of pair.v) }
+    {
+        match self.differences(pair) {
+            Some(differences) => differences.shares_cell(pair.u, pair.v),
+            None => shares_cell(&self.fleet, pair),
+        }
+    }
+
+    // Whether the two sleds collide, where the first moves by a and the second by b.
+    fn collide_moving(&self, pair: Pair, a: Move, b: Move) -> bool
+        ensures { result ≡ collide (tabled_sleds self.now.fleet pair.i) (position_of pair.u) a (tabled_sleds self.now.fleet pair.j) (position_of pair.v) b }
+    {
+        match self.differences(pair) {
+            Some(differences) => differences.collides(pair.u, a, pair.v, b),
+            None => collides(&self.fleet, pair, a, b),
         }
     }
 
@@ -98,26 +98,23 @@ impl Instance {
     pub(crate) fn meet(&self, i: usize, j: usize, u: u8, v: u8) -> bool
         ensures { result ≡ meets_at (task_in self.now) i j u v }
     {
-        self.share_cell(i, j, Place::from(u), Place::from(v))
+        pair_at(i, j, u, v).is_some_and(|pair| self.share_cell(pair))
     }
 
     // Whether sled i from u to u2 and sled j from v to v2 collide in one step.
     pub(crate) fn collide(&self, i: usize, j: usize, u: u8, u2: u8, v: u8, v2: u8) -> bool
         ensures { result ≡ collides_in (task_in self.now) i j u u2 v v2 }
     {
-        let Some(a) = move_between(u, u2) else {
-            return self.meet_at_an_end(i, j, u, u2, v, v2);
-        };
-        let Some(b) = move_between(v, v2) else {
-            return self.meet_at_an_end(i, j, u, u2, v, v2);
-        };
-        self.collide_moving(i, j, Place::from(u), a, Place::from(v), b)
+        match move_between(u, u2).zip(move_between(v, v2)) {
+            Some((a, b)) => self.collide_by(i, j, u, a, v, b),
+            None => self.meet(i, j, u, v) || self.meet(i, j, u2, v2),
+        }
     }
 
-    // Whether they meet before the step or after it.
-    fn meet_at_an_end(&self, i: usize, j: usize, u: u8, u2: u8, v: u8, v2: u8) -> bool
-        ensures { result ≡ (meets_at (task_in self.now) i j u v || meets_at (task_in self.now) i j u2 v2) }
+    // Whether sled i, moving by a from u, and sled j, moving by b from v, collide.
+    fn collide_by(&self, i: usize, j: usize, u: u8, a: Move, v: u8, b: Move) -> bool
+        ensures { result ≡ collide (tabled_sleds self.now.fleet i) (position_at u) a (tabled_sleds self.now.fleet j) (position_at v) b }
     {
-        self.meet(i, j, u, v) || self.meet(i, j, u2, v2)
+        pair_at(i, j, u, v).is_some_and(|pair| self.collide_moving(pair, a, b))
     }
 }

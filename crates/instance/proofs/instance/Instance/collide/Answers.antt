@@ -1,42 +1,65 @@
-use Rattle.std.proofs.Common.{◌≡◌, ℕ, false, sym, ◌∙◌, ⊎_elim}
+use Rattle.std.proofs.Common.{◌≡◌, ℕ, false, ◌&&◌, ◌||◌, Some, None, Option, sym, ap, subst, ◌∙◌, ⊎_elim}
+use Rattle.std.specs.Option.{option_zip}
+use Rattle.std.proofs.lemmas.Option.{none-some, same_Some}
 use Rattle.std.proofs.lemmas.Bool.{cases_Bool, and_left, and_right}
-use Rattle.grid.specs.Board.{Step}
-use Rattle.geometry.specs.Collisions.{collide}
-use Rattle.tables.specs.TabledFleets.{tabled_sleds}
-use Rattle.plans.specs.Instance.{is_step}
+use Rattle.grid.specs.declared.moves.Move.{Move}
+use Rattle.grid.specs.Board.{Leads, Step}
+use Rattle.plans.specs.Instance.{is_step, meets_at}
 use Rattle.plans.proofs.Steps.{step_told}
 use Rattle.plans.proofs.Tests.{collides_by_moves, collides_without_step}
 use Rattle.instance.specs.Instances.{task_in}
+use Rattle.instance.specs.Steps.{MoveTold}
 use Rattle.instance.proofs.instance.Instance.collide.Goals as goal
 
 no_step : (u v : ℕ) → (Step u v → ⊥) → is_step u v ≡ false
 no_step u v none = ⊎_elim (λ e. absurd (none ((step_told u v).0 e))) (λ e. e) (cases_Bool (is_step u v))
 
-pub returns-in_default : goal.returns-in_default
-returns-in_default c =
+module _ (u u2 v v2 : ℕ) where
+  both_step : (a b : Move) (m n : Option Move) → MoveTold u u2 m → MoveTold v v2 n → Some (a, b) ≡ option_zip m n → Leads u a u2 × Leads v b v2
+  both_step a b None n h k e = absurd (none-some (a, b) (sym e))
+  both_step a b (Some x) None h k e = absurd (none-some (a, b) (sym e))
+  both_step a b (Some x) (Some y) h k e =
+      let same = same_Some (a, b) (x, y) e in
+      (subst (λ m. Leads u m u2) (sym (ap (λ p. p.0) same)) h, subst (λ m. Leads v m v2) (sym (ap (λ p. p.1) same)) k)
+
+  not_both : (m n : Option Move) → MoveTold u u2 m → MoveTold v v2 n → None ≡ option_zip m n → (is_step u u2 && is_step v v2) ≡ false
+  not_both None n h k e = and_left (is_step u u2) (is_step v v2) (no_step u u2 h)
+  not_both (Some x) None h k e = and_right (is_step u u2) (is_step v v2) (no_step v v2 k)
+  not_both (Some x) (Some y) h k e = absurd (none-some (x, y) e)
+
+pub returns-in-Some : goal.returns-in-Some
+returns-in-Some c =
+    let i = c.args.i in
+    let j = c.args.j in
     let u = c.args.u in
     let u2 = c.args.u2 in
     let v = c.args.v in
     let v2 = c.args.v2 in
-    c.meet_at_an_end.ensures
-    ∙ sym (collides_without_step (task_in c.args.self.now) c.args.i c.args.j u u2 v v2 (and_left (is_step u u2) (is_step v v2) (no_step u u2 c.in_default.ensures)))
-
-pub returns-in_default-move_between : goal.returns-in_default-move_between
-returns-in_default-move_between c =
-    let u = c.args.u in
-    let u2 = c.args.u2 in
-    let v = c.args.v in
-    let v2 = c.args.v2 in
-    c.meet_at_an_end-in_default-move_between.ensures
-    ∙ sym (collides_without_step (task_in c.args.self.now) c.args.i c.args.j u u2 v v2 (and_right (is_step u u2) (is_step v v2) (no_step v v2 c.in_default-move_between.ensures)))
-
-pub returns : goal.returns
-returns c =
-    let t = c.args.self.now.fleet in
     let a = c.in-Some.a in
-    let b = c.in-Some-move_between.b in
-    let u = c.from.ensures.place in
-    let v = c.from-2.ensures.place in
-    c.collide_moving.ensures
-    ∙ (λ x. collide (tabled_sleds t c.args.i) (u x) a (tabled_sleds t c.args.j) (v x) b)
-    ∙ sym (collides_by_moves (task_in c.args.self.now) c.args.i c.args.j c.args.u c.args.u2 c.args.v c.args.v2 a b c.in-Some.ensures c.in-Some-move_between.ensures)
+    let b = c.in-Some.b in
+    let (first, second) = both_step u u2 v v2 a b c.move_between.result c.move_between-2.result c.move_between.ensures c.move_between-2.ensures (sym c.in-Some.is ∙ c.zip.ensures) in
+    c.collide_by.ensures ∙ sym (collides_by_moves (task_in c.args.self.now) i j u u2 v v2 a b first second)
+
+pub returns-then-meet : goal.returns-then-meet
+returns-then-meet c =
+    let K = task_in c.args.self.now in
+    let i = c.args.i in
+    let j = c.args.j in
+    let u = c.args.u in
+    let u2 = c.args.u2 in
+    let v = c.args.v in
+    let v2 = c.args.v2 in
+    let rest = not_both u u2 v v2 c.move_between.result c.move_between-2.result c.move_between.ensures c.move_between-2.ensures (sym c.in-None.is ∙ c.zip.ensures) in
+    c.if-meet.true ∙ sym (collides_without_step K i j u u2 v v2 rest ∙ ap (λ met. met || meets_at K i j u2 v2) (sym c.meet.ensures ∙ c.if-meet.true))
+
+pub returns-else-meet : goal.returns-else-meet
+returns-else-meet c =
+    let K = task_in c.args.self.now in
+    let i = c.args.i in
+    let j = c.args.j in
+    let u = c.args.u in
+    let u2 = c.args.u2 in
+    let v = c.args.v in
+    let v2 = c.args.v2 in
+    let rest = not_both u u2 v v2 c.move_between.result c.move_between-2.result c.move_between.ensures c.move_between-2.ensures (sym c.in-None.is ∙ c.zip.ensures) in
+    c.meet-else-meet.ensures ∙ sym (collides_without_step K i j u u2 v v2 rest ∙ ap (λ met. met || meets_at K i j u2 v2) (sym c.meet.ensures ∙ c.if-meet.false))

@@ -1,9 +1,9 @@
-use Rattle.std.proofs.Common.{ℕ, ◌<◌, sym, ◌∙◌, inr, arith}
+use Rattle.std.proofs.Common.{sym, ◌∙◌, inr, arith}
 use Rattle.std.proofs.lemmas.Bool.{both_ways}
 use Rattle.tables.specs.TabledFleets.{tabled_sleds}
 use Rattle.instance.specs.Instances.{FitsJob}
 use Rattle.instance.proofs.Past.{some_sleds, few_sleds}
-use Rattle.instance.proofs.Making.{ends_told, all_start, all_end}
+use Rattle.instance.proofs.Making.{ends_told, all_stand}
 use Rattle.instance.proofs.instance.Instance.of.Goals as goal
 
 pub returns-in-Some : goal.returns-in-Some
@@ -37,10 +37,8 @@ invariant_of-result g c =
     let ends = c.ends_of-ends.result in
     let of_job = c.ends_of-ends.ensures in
     let as_many = c.of-fleet.ensures.count ∙ sym c.count.ensures ∙ c.if-count.false in
-    let all = λ (s : ℕ) (h : s < t.count). c.in_default.ensures s (omega (arith, as_many)) in
     record {
-      starting = all_start job (tabled_sleds t) floor standing told ends of_job t.count t.few all;
-      ending = all_end job (tabled_sleds t) floor standing told ends of_job t.count t.few all;
+      ends_stand = all_stand job (tabled_sleds t) floor standing told ends of_job t.count t.few (λ s below. c.in_default.ensures s (omega (arith, as_many)));
       stands = told;
       paired = ∣ c.pairs_of.ensures ∣₁;
     }
@@ -62,5 +60,5 @@ returns g c =
     record {
       fits = (omega (arith, some_sleds job), as_many);
       stand = λ s below. (stand s (omega arith)).0 (c.in_default.ensures s (omega arith));
-      task = λ x. record { sleds = sleds x; horizon = lasts x; start = λ s. (of_job.starts s).1 x; goal = λ s. (of_job.goals s).1 x; floor = laid x; offsets = same x };
+      task = λ x. record { sleds = sleds x; horizon = lasts x; start = λ s. (of_job s).start.1 x; goal = λ s. (of_job s).goal.1 x; floor = laid x; offsets = same x };
     }

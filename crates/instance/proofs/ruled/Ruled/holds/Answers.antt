@@ -11,8 +11,8 @@ use Rattle.instance.proofs.ruled.Ruled.holds.Goals as goal
 pub returns-else-share_cell : goal.returns-else-share_cell
 returns-else-share_cell g c =
     let p = c.args.self.now in
-    let r = p.rule in
-    let t = p.instance.fleet in
+    let r = p.rule.now in
+    let t = p.instance.now.fleet in
     let rule = g.met.R.SplitRule in
     let sets = g.R.SplitRule.sets r in
     let s = situation t.count (tabled_sleds t) c.args.pair in
@@ -24,8 +24,8 @@ returns-else-share_cell g c =
 pub returns-else-share_cell-2 : goal.returns-else-share_cell-2
 returns-else-share_cell-2 g c =
     let p = c.args.self.now in
-    let r = p.rule in
-    let t = p.instance.fleet in
+    let r = p.rule.now in
+    let t = p.instance.now.fleet in
     let rule = g.met.R.SplitRule in
     let sets = g.R.SplitRule.sets r in
     let s = situation t.count (tabled_sleds t) c.args.pair in

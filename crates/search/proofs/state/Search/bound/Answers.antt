@@ -1,10 +1,11 @@
 use Rattle.std.proofs.Common.{Ok, ap}
 use Rattle.instance.specs.Instances.{model_of}
 use Rattle.search.specs.States.{tree_after}
+use Rattle.search.proofs.Going.{when_open}
 use Rattle.search.proofs.state.Search.bound.Goals as goal
 
-pub returns : goal.returns
-returns g c =
+pub returns-in-Some : goal.returns-in-Some
+returns-in-Some g c =
     let s = c.args.self.now in
     let sets = g.R.SplitRule.sets in
-    record { idle = λ e. cc; opened = λ K limit n o. ap Ok (c.bound.ensures (model_of K (sets s.problem.rule)) (tree_after sets s K limit n) o.tree_is) }
+    when_open sets s _ c.in-Some.is (λ K limit n o held. ap Ok (c.bound.ensures (model_of K (sets s.rule)) (tree_after sets s K limit n) o.tree_is))

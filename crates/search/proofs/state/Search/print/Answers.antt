@@ -1,27 +1,33 @@
-use Rattle.std.proofs.Common.{◌≡◌, ℕ, ◌≤◌, refl, ap, ◌∙◌, subst, arith}
+use Rattle.std.proofs.Common.{ℕ, ◌≤◌, [], get_or, sym, refl, ap, ◌∙◌, subst, arith}
 use Rattle.plans.specs.Tasks.{Task}
 use Rattle.plans.specs.Instance.{setting_of}
+use Rattle.instance.specs.Instances.{model_of}
 use Rattle.instance.specs.Terms.{task_terms}
+use Rattle.search.specs.declared.state.Opened.{Opened}
 use Rattle.search.specs.States.{planning, tree_after}
 use Rattle.search.specs.Printing.{PrintsTree}
+use Rattle.search.specs.Workings.{TellsRoute}
 use Rattle.search.proofs.Ending.{turns_bounded}
+use Rattle.search.proofs.Going.{when_open, same_task}
 use Rattle.search.proofs.Printing.{printed}
 use Rattle.search.proofs.state.Search.print.Goals as goal
 
 pub returns : goal.returns
 returns g c =
     let s = c.args.self.now in
+    let x = c.in-Some.opened in
     let sets = g.R.SplitRule.sets in
     let before = c.args.out.now in
     let after = c.write_report.new.out in
     let r = c.write_report.result in
-    record {
-      idle = λ e. let z = c.in-Some.ensures.idle e in let q : ◌≡◌ {A = ℕ} 0 1 = cc in absurd (omega arith);
-      opened = λ K limit n o.
-          let P = planning sets s K in
-          let t = tree_after sets s K limit n in
-          let few = subst (λ (x : Task). x.sleds ≤ 6) o.task (task_terms s.problem.instance).fleet.few in
-          subst (λ (m : ℕ). PrintsTree before after r (setting_of K) t m t.verdict) o.turns_are
-          (printed before after r P t _ (c.sleds.ensures ∙ ap (λ (x : Task). x.sleds) o.task) (c.horizon.ensures ∙ ap (λ (x : Task). x.horizon) o.task)
-          (λ k e i l. c.plan.ensures.each i (omega arith) K limit n k o e l) c.write_report.ensures t.verdict refl (turns_bounded P limit n) (c.in-Some.ensures.opened K limit n o));
-    }
+    when_open sets s x c.in-Some.is
+    (λ K limit n o held.
+    let P = planning sets s K in
+    let t = tree_after sets s K limit n in
+    let task = same_task sets s x K limit n o held in
+    let few = subst (λ (k : Task). k.sleds ≤ 6) task (task_terms x.instance).fleet.few in
+    subst (λ (m : ℕ). PrintsTree before after r (setting_of K) t m t.verdict) (ap (λ (y : Opened). y.turns) (sym held) ∙ o.turns_are)
+    (printed before after r P t _ (c.sleds.ensures ∙ ap (λ (k : Task). k.sleds) task) (c.horizon.ensures ∙ ap (λ (k : Task). k.horizon) task)
+    (λ k e i l.
+    subst (λ (j : Task). TellsRoute (model_of j (sets s.rule)) s.engine i (get_or c.plan.result i [])) task (c.plan.ensures.each i (omega arith)) t k o.tree_is e l)
+    c.write_report.ensures t.verdict refl (turns_bounded P limit n) (c.in-Some-outcome.ensures.opened K limit n o)))

@@ -1,23 +1,25 @@
-use Rattle.std.proofs.Common.{◌<◌, sym, ◌∙◌, subst, true≢false, arith}
+use Rattle.std.proofs.Common.{◌<◌, subst, arith}
 use Rattle.plans.specs.Tasks.{Task}
 use Rattle.instance.specs.Instances.{task_in}
 use Rattle.search.specs.Counting.{CountsOf}
 use Rattle.search.proofs.Counting.{counts}
+use Rattle.search.proofs.Going.{when_open, same_task}
 use Rattle.search.proofs.state.Search.routes.Goals as goal
 
 pub returns : goal.returns
 returns g c =
+    let all = c.args.self.now in
+    let x = c.in-Some.opened in
+    let sets = g.R.SplitRule.sets in
     let s = c.args.sled in
     let row = c.args.row.now in
     let spare = c.args.spare.now in
     let row' = c.count_routes.new.row in
     let spare' = c.count_routes.new.spare in
     let r = c.count_routes.result in
-    let K₀ = task_in c.args.self.now.problem.instance in
+    let K₀ = task_in x.instance in
     let below : s < K₀.sleds = omega (arith, c.sleds.ensures, c.if-sled-sleds.false) in
-    record {
-      idle = λ e. absurd (true≢false (sym e ∙ c.if-self.false));
-      opened = λ K limit n o.
-          subst (λ (k : Task). CountsOf s row spare row' spare' k r) o.task
-          (counts s row spare row' spare' K₀ below c.horizon.result.steps c.start.result c.goal.result c.horizon.ensures c.start.ensures c.goal.ensures r c.count_routes.ensures);
-    }
+    when_open sets all x c.in-Some.is
+    (λ K limit n o held.
+    subst (λ (k : Task). CountsOf s row spare row' spare' k r) (same_task sets all x K limit n o held)
+    (counts s row spare row' spare' K₀ below c.horizon.result.steps c.start.result c.goal.result c.horizon.ensures c.start.ensures c.goal.ensures r c.count_routes.ensures))

@@ -10,17 +10,17 @@ use Rattle.search.specs.Workings.{events_of}
 use Rattle.search.proofs.Running.{promise_kept}
 use Rattle.search.proofs.state.Search.run.Goals as goal
 
-pub returns-in-Ok-open : goal.returns-in-Ok-open
-returns-in-Ok-open g c =
+pub returns : goal.returns
+returns g c =
     let s = c.args.self.now in
     let job = c.args.job.now in
     let calls = c.args.calls.now in
     let fleet = s.fleet in
-    let rule = s.problem.rule in
+    let rule = s.rule in
     let sets = g.R.SplitRule.sets in
     let K = asked g.F.Fleet.offsets job s in
     let limit = (facts job).limit in
-    let opened = c.in-Ok-open.ensures in
+    let opened = c.in_ok-open.ensures in
     let made = c.make_calls.ensures in
     let end = c.make_calls.new.self in
     let all = made.at K limit opened.at_root in
