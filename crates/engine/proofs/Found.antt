@@ -1,5 +1,5 @@
 -- What `find_map` gives over the numbers below a bound.
-use Rattle.std.proofs.Common.{◌≡◌, ℕ, ◌+◌, ◌<◌, ◌≤◌, is_some, Some, None, Option, sym, ap, ◌∙◌, arith}
+use Rattle.std.proofs.Common.{◌≡◌, ℕ, ◌+◌, ◌<◌, is_some, Some, None, Option, sym, ap, ◌∙◌, arith}
 use Rattle.std.specs.Option.{MatchOption, IfSome, IsSomeAnd, option_map}
 use Rattle.std.specs.Bool.{IsTrue}
 use Rattle.std.specs.Fn.{Called}
