@@ -1,7 +1,8 @@
 -- The table of what is forbidden, as it takes one constraint more.
-use Rattle.std.proofs.Common.{◌≡◌, ℕ, ◌+◌, ◌<◌, Bool, true, false, ◌&&◌, ◌||◌, eqb, ◌≢◌, List, [], ◌∷◌, length, get_or, take, set, sym, refl, ap, ◌∙◌, ap₂, ⊎_elim, arith}
+use Rattle.std.proofs.Common.{◌≡◌, ℕ, ◌<◌, Bool, true, false, ◌&&◌, ◌||◌, eqb, ◌≢◌, List, [], ◌∷◌, ◌++◌, length, get_or, set, sym, ap, ◌∙◌, ap₂, ⊎_elim, arith}
 use Rattle.std.proofs.lemmas.Bool.{cases_eq, eq-eqb, ne_eqb, and_parts, or_cases, or_left, or_right}
-use Rattle.std.proofs.lemmas.List.{get_or-set_same, get_or-set_other, take_more_set}
+use Rattle.std.proofs.lemmas.List.{get_or-set_same, get_or-set_other}
+use Rattle.few.specs.Told.{told}
 use Rattle.tree.specs.Constraints as constraints
 use Rattle.engine.specs.declared.node.Move.{Move}
 use Rattle.engine.specs.declared.forbidden.Forbidden.{Forbidden}
@@ -9,10 +10,10 @@ use Rattle.engine.specs.Forbids.{forbids_place, forbids_move, marked, is_move, l
 use Rattle.engine.proofs.Marks.{listed_append, or_assoc}
 
 module _ (b c : Forbidden) (rest all : List constraints.Constraint) where
-  pub placed : (t : ℕ) (more row : List Bool) → t < 64 → length b.places ≡ 64 → c.places ≡ set b.places t row → c.leaving ≡ b.leaving → c.moves ≡ b.moves → c.count ≡ b.count →
+  pub placed : (t : ℕ) (more row : List Bool) → t < 64 → length b.places ≡ 64 → c.places ≡ set b.places t row → c.leaving ≡ b.leaving → told c.moves ≡ told b.moves →
       ((p : ℕ) → p < 256 → get_or row p false ≡ (get_or (get_or b.places t []) p false || get_or more p false)) →
       Collected b (constraints.place_constraint t (λ w. get_or more w false) ∷ rest) all → Collected c rest all
-  placed t more row l tall e d f g join h = record {
+  placed t more row l tall e d f join h = record {
     places = λ s p m n. ⊎_elim
         (λ (z : s ≡ t).
         let row_s : get_or c.places s [] ≡ row = ap₂ (λ (ps : List (List Bool)) (k : ℕ). get_or ps k []) e z ∙ get_or-set_same b.places t row [] (omega arith) in
@@ -31,13 +32,13 @@ module _ (b c : Forbidden) (rest all : List constraints.Constraint) where
   }
     where
       moves_same : (s p q : ℕ) → moves_of c s p q ≡ moves_of b s p q
-      moves_same s p q = ap₂ (λ (k : ℕ) (ms : List Move). listed (take k ms) s p q) g f
+      moves_same s p q = ap (λ (ms : List Move). listed ms s p q) f
 
-  pub moved : (t u v : ℕ) → length b.moves ≡ 512 → b.count < 512 → c.places ≡ b.places →
+  pub moved : (t u v : ℕ) → c.places ≡ b.places →
       ((s p : ℕ) → s < 64 → p < 256 → marked c.leaving s p ≡ (marked b.leaving s p || (eqb t s && eqb u p))) →
-      c.moves ≡ set b.moves b.count (record { instant = t; from = u; to = v }) → c.count ≡ b.count + 1 →
+      told c.moves ≡ told b.moves ++ record { instant = t; from = u; to = v } ∷ [] →
       Collected b (constraints.move_constraint t u v ∷ rest) all → Collected c rest all
-  moved t u v long l e d f g h = record {
+  moved t u v e d f h = record {
     places = λ s p m n. ap (λ (ps : List (List Bool)). marked ps s p || forbids_place rest s p) e ∙ h.places s p m n;
     moves = λ s p q.
         ap (λ x. x || forbids_move rest s p q) (moves_more s p q)
@@ -53,5 +54,4 @@ module _ (b c : Forbidden) (rest all : List constraints.Constraint) where
 
       moves_more : (s p q : ℕ) → moves_of c s p q ≡ (moves_of b s p q || is_move step s p q)
       moves_more s p q =
-          ap (λ (xs : List Move). listed xs s p q) (ap₂ (λ (k : ℕ) (xs : List Move). take k xs) g f ∙ take_more_set b.moves b.count step (omega arith))
-          ∙ listed_append (take b.count b.moves) step s p q
+          ap (λ (xs : List Move). listed xs s p q) f ∙ listed_append (told b.moves) step s p q

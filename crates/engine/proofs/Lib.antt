@@ -5,6 +5,7 @@ pub mod Scanning
 pub mod Cheapest
 pub mod Costs
 mod Made
+pub mod Found
 mod Marks
 pub mod Collecting
 pub mod Trails

@@ -1,6 +1,7 @@
 -- Which steps a list of constraints forbids, and a table that tells it.
-use Rattle.std.specs.Prelude.{◌≡◌, ℕ, ◌+◌, ◌<◌, ◌≤◌, Bool, true, false, not, ◌&&◌, ◌||◌, List, [], ◌∷◌, take, ◌==◌, nat_lt, slice_index_or}
+use Rattle.std.specs.Prelude.{◌≡◌, ℕ, ◌+◌, ◌<◌, ◌≤◌, Bool, true, false, not, ◌&&◌, ◌||◌, List, [], ◌∷◌, ◌==◌, nat_lt, slice_index_or}
 use Rattle.std.specs.List.{list_any}
+use Rattle.few.specs.Told.{told}
 use Rattle.tree.specs.Setting.{Setting}
 use Rattle.tree.specs.Constraints as constraints
 use Rattle.engine.specs.Model.{Model}
@@ -35,7 +36,7 @@ listed ms t p q = list_any (λ m. is_move m t p q) ms
 
 -- the moves of the table
 abbrev pub moves_of : Forbidden → (t p q : ℕ) → Bool
-moves_of b t p q = listed (take b.count b.moves) t p q
+moves_of b t p q = listed (told b.moves) t p q
 
 -- what the table forbids
 abbrev pub is_forbidden : Forbidden → (t p q : ℕ) → Bool

@@ -1,11 +1,13 @@
 // Filling and asking the table of what is forbidden.
-ghost use Rattle.std.specs.Prelude.{◌≡◌, ℕ, ◌+◌, ◌<◌, ◌≤◌, false, ◌&&◌, ◌||◌, List, ◌∷◌, take, ◌==◌, slice_index_or};
+ghost use Rattle.std.specs.Prelude.{◌≡◌, ℕ, ◌+◌, ◌<◌, ◌≤◌, false, ◌&&◌, ◌||◌, List, ◌∷◌, length, ◌==◌, slice_index_or};
+ghost use Rattle.few.specs.Told.{told};
 ghost use Rattle.tree.specs.Constraints as constraints;
 ghost use Rattle.engine.specs.Table.{constraint_of};
 ghost use Rattle.engine.specs.Forbids.{marked, listed, is_forbidden, Collected, FitsTable};
 
 use super::forbidden::Forbidden;
 use super::node::{Constraint, Move, PlaceSet};
+use few::Few;
 use grid::place::BOARD_PLACES;
 use std::array;
 use walk::horizon::MAX_INSTANTS;
@@ -26,7 +28,7 @@ impl Forbidden {
     // Nothing is forbidden.
     pub(crate) fn nothing() -> Forbidden
         ensures empty { (bs : List constraints.Constraint) → Collected result bs bs }
-        ensures count { result.count ≡ 0 }
+        ensures free { length (told result.moves) ≡ 0 }
     {
         let nowhere = Move {
             instant: 0,
@@ -36,16 +38,15 @@ impl Forbidden {
         Forbidden {
             places: [[false; BOARD_PLACES]; MAX_INSTANTS],
             leaving: [[false; BOARD_PLACES]; MAX_INSTANTS],
-            moves: [nowhere; 512],
-            count: 0,
+            moves: Few::new(nowhere),
         }
     }
 
     // Whether a move is in the list.
     fn has_move(&self, step: Move) -> bool
-        ensures { result ≡ listed (take self.now.count self.now.moves) step.instant step.from step.to }
+        ensures { result ≡ listed (told self.now.moves) step.instant step.from step.to }
     {
-        self.moves[..self.count].contains(&step)
+        self.moves.as_slice().contains(&step)
     }
 
     // Whether a step is forbidden. The list of moves is looked through only where some move from that place is in it.
@@ -63,7 +64,7 @@ impl Forbidden {
     fn mark_leaving(&mut self, step: Move)
         requires { step.instant < 64 }
         ensures marks { (t p : ℕ) → t < 64 → p < 256 → marked self.new.leaving t p ≡ (marked self.old.leaving t p || (step.instant == t && step.from == p)) }
-        ensures same { (self.new.places ≡ self.old.places) × ((self.new.moves ≡ self.old.moves) × (self.new.count ≡ self.old.count)) }
+        ensures same { (self.new.places ≡ self.old.places) × (self.new.moves ≡ self.old.moves) }
     {
         let row = &mut self.leaving[step.instant as usize];
         row[step.from as usize] = true;
@@ -71,9 +72,9 @@ impl Forbidden {
 
     // Forbids more.
     pub(crate) fn add(&mut self, constraint: Constraint)
-        requires room { self.old.count < 512 }
+        requires room { length (told self.old.moves) < 512 }
         requires fits { FitsTable constraint }
-        ensures count { self.new.count ≤ self.old.count + 1 }
+        ensures room { length (told self.new.moves) ≤ length (told self.old.moves) + 1 }
         ensures added { (rest all : List constraints.Constraint) → Collected self.old (constraint_of constraint ∷ rest) all → Collected self.new rest all }
     {
         match constraint {
@@ -83,8 +84,8 @@ impl Forbidden {
             }
             Constraint::Move(step) => {
                 self.mark_leaving(step);
-                self.moves[self.count] = step;
-                self.count += 1;
+                // There is room for it, as the caller says.
+                let _ = self.moves.push(step);
             }
         }
     }

@@ -23,6 +23,7 @@ fn first_with<F: Fn(u8, usize, usize) -> bool>(
         → ((second : ℕ) (b : Bool) → first < second → second < sleds → F.post passes.now instant first second b → b ≡ test instant first second)
         → result ≡ at_sled sleds test instant first }
 {
+    // By hand: `find` asks for a test that may be asked about all numbers.
     for second in first + 1..sleds {
         if passes(instant, first, second) {
             return Some(Pair {
@@ -42,12 +43,7 @@ fn first_at<F: Fn(u8, usize, usize) -> bool>(passes: &F, sleds: usize, instant: 
         → ((first second : ℕ) (b : Bool) → first < second → second < sleds → F.post passes.now instant first second b → b ≡ test instant first second)
         → result ≡ at_time sleds test instant }
 {
-    for first in 0..sleds {
-        if let Some(pair) = first_with(passes, sleds, instant, first) {
-            return Some(pair);
-        }
-    }
-    None
+    (0..sleds).find_map(|first| first_with(passes, sleds, instant, first))
 }
 
 // The first pair that passes at one of the first instants.
@@ -59,10 +55,5 @@ pub(crate) fn first_pair<F: Fn(u8, usize, usize) -> bool>(
     requires { Pairs sleds instants (F.pre passes) }
     ensures { (test : ℕ → ℕ → ℕ → Bool) → Decides sleds instants (F.post passes) test → result ≡ scanned sleds test instants }
 {
-    for instant in 0..instants {
-        if let Some(pair) = first_at(&passes, sleds, instant) {
-            return Some(pair);
-        }
-    }
-    None
+    (0..instants).find_map(|instant| first_at(&passes, sleds, instant))
 }

@@ -83,6 +83,7 @@ impl NodeTable {
     pub(crate) fn cheapest(&self) -> Option<u16>
         ensures { CheapestSoFar self.now.nodes.items (vec_len self.now.nodes) result }
     {
+        // By hand: of a chain that ends in `min_by_key` it is told that the sum is least, and not which of equals is given.
         let mut best = None;
         for number in 0..self.nodes.len() as u16 {
             if self.is_cheaper(number, best) {

@@ -1,5 +1,6 @@
 // The constraints of a node and its ancestors.
-ghost use Rattle.std.specs.Prelude.{◌+◌, ◌<◌, ◌≤◌, List, [], ◌∷◌, slice_index_or, vec_len};
+ghost use Rattle.std.specs.Prelude.{◌+◌, ◌<◌, ◌≤◌, List, [], ◌∷◌, length, slice_index_or, vec_len};
+ghost use Rattle.few.specs.Told.{told};
 ghost use Rattle.tree.specs.Constraints as constraints;
 ghost use Rattle.tree.specs.Tree as tree;
 ghost use Rattle.engine.specs.Model.{Model};
@@ -12,7 +13,7 @@ use super::table::NodeTable;
 
 // Adds what the trail of a node forbids a sled.
 fn add_trail(table: &NodeTable, number: usize, sled: usize, forbidden: &mut Forbidden)
-    requires { (number < vec_len table.now.nodes) × (forbidden.old.count + number ≤ 512) }
+    requires { (number < vec_len table.now.nodes) × (length (told forbidden.old.moves) + number ≤ 512) }
     ensures { (m : Model) (xs : List tree.Node) (all : List constraints.Constraint) → Tracks m table.now.nodes.items xs → Collected forbidden.old (constraints.constraints_on sled (slice_index_or xs number blank).trail) all → Collected forbidden.new [] all }
 {
     let nodes = table.records();

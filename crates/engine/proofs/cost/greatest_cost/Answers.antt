@@ -1,22 +1,15 @@
-use Rattle.std.proofs.Common.{◌≡◌, ℕ, ◌+◌, ◌<◌, max, [], get_or, ap, ◌∙◌, ap₂, arith}
-use Rattle.tree.specs.Routes.{settled}
-use Rattle.engine.proofs.Costs.{greatest_none, greatest_more, greatest_all}
+use Rattle.std.proofs.Common.{◌∙◌, rules, tests, arith}
+use Rattle.std.proofs.lemmas.Iterator.{YieldsList-from_range, YieldsList-from_map}
+use Rattle.std.proofs.lemmas.Iterator.Consumers.{max_from_yields_List}
+use Rattle.engine.proofs.Costs.{cost_at, makespan_is}
 use Rattle.engine.proofs.cost.greatest_cost.Goals as goal
-
-pub loop-sled-init : goal.loop-sled-init
-loop-sled-init g c = greatest_none (g.P.Problem.model c.args.problem.now).setting c.args.routes.now
-
-pub loop-sled-preserved : goal.loop-sled-preserved
-loop-sled-preserved g c =
-    let S = (g.P.Problem.model c.args.problem.now).setting in
-    let rs = c.args.routes.now in
-    let n = c.loop-sled.sled in
-    let costs : c.route_cost-cost.result ≡ settled (S.goal n) (get_or rs n []) (S.horizon + 1) =
-    c.route_cost-cost.ensures.cost ∙ ap₂ (λ (a b : ℕ). settled a (get_or rs n []) (b + 1)) c.goal.ensures c.horizon-horizon.ensures in
-    let within : n < S.sleds = omega (arith, c.sleds-sled-end.ensures) in
-    c.max-greatest.ensures ∙ ap (λ k. max k c.route_cost-cost.result) c.loop-sled.invariant ∙ greatest_more S rs n c.route_cost-cost.result within costs
 
 pub returns : goal.returns
 returns g c =
     let S = (g.P.Problem.model c.args.problem.now).setting in
-    c.loop-sled.invariant ∙ greatest_all S c.args.routes.now c.loop-sled.sled (omega (arith, c.sleds-sled-end.ensures))
+    let rs = c.args.routes.now in
+    let n = c.sleds.result in
+    c.unwrap_or.ensures
+    ∙ makespan_is S rs n c.sleds.ensures c.max.result
+    (max_from_yields_List _ c.max.result c.max.ensures.ran
+    (YieldsList-from_map _ (cost_at S rs) (YieldsList-from_range 0 n n c.map.ensures.source (omega arith)) c.map.ensures.closure (λ x r q k. search (rules, tests))))

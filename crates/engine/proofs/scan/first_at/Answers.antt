@@ -1,19 +1,12 @@
-use Rattle.std.proofs.Common.{sym, arith, below_more}
+use Rattle.std.proofs.Common.{◌≡◌, ℕ, ◌<◌, Bool, refl, rules}
 use Rattle.engine.specs.Scans.{at_sled, at_time}
-use Rattle.engine.proofs.Below.{none_all, found_at}
+use Rattle.engine.proofs.Found.{found_below}
+use Rattle.engine.proofs.scan.first_at.Given as given
 use Rattle.engine.proofs.scan.first_at.Goals as goal
-
-pub loop-first-preserved : goal.loop-first-preserved
-loop-first-preserved g c test h = below_more _ _ (c.loop-first.invariant test h) (sym (c.in_default.ensures test (h c.loop-first.first)))
-
-pub returns-in-Some : goal.returns-in-Some
-unfolding at_time
-returns-in-Some g c test h =
-    let scan = at_sled c.args.sleds test c.args.instant in
-    let i = c.loop-first.first in
-    sym (found_at scan i c.args.sleds (none_all scan i (c.loop-first.invariant test h)) (sym (c.in-Some.ensures test (h i))) c.loop-first-test.true)
 
 pub returns : goal.returns
 unfolding at_time
-returns g c test h =
-    sym (none_all (at_sled c.args.sleds test c.args.instant) c.args.sleds (λ k l. c.loop-first.invariant test h k (omega (arith, c.loop-first-test.false))))
+returns g c test h = found_below (at_sled c.args.sleds test c.args.instant) c.args.sleds (λ i y q k. search rules) (λ i y l k.
+    let told : (any : ℕ → ℕ → ℕ → Bool) → ((j : ℕ) (b : Bool) → i < j → j < c.args.sleds → given.F-post g c.args.passes.now c.args.instant i j b → b ≡ any c.args.instant i j) →
+    y ≡ at_sled c.args.sleds any c.args.instant i = search rules in
+    told test (h i)) _ refl c.find_map.result c.find_map.ensures.runs

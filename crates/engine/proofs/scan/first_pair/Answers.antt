@@ -1,20 +1,11 @@
-use Rattle.std.proofs.Common.{sym, arith, below_more}
+use Rattle.std.proofs.Common.{◌≡◌, ℕ, ◌<◌, Bool, refl, rules}
 use Rattle.engine.specs.Scans.{at_time, scanned}
-use Rattle.engine.proofs.Below.{none_all, found_at}
+use Rattle.engine.proofs.Found.{found_below}
+use Rattle.engine.proofs.scan.first_pair.Given as given
 use Rattle.engine.proofs.scan.first_pair.Goals as goal
-
-pub loop-instant-preserved : goal.loop-instant-preserved
-loop-instant-preserved g c test h =
-    below_more _ _ (c.loop-instant.invariant test h) (sym (c.in_default.ensures test (λ i j b l m p. h c.loop-instant.instant i j c.loop-instant-test.true l m b p)))
-
-pub returns-in-Some : goal.returns-in-Some
-unfolding scanned
-returns-in-Some g c test h =
-    let scan = at_time c.args.sleds test in
-    let t = c.loop-instant.instant in
-    sym (found_at scan t c.args.instants (none_all scan t (c.loop-instant.invariant test h)) (sym (c.in-Some.ensures test (λ i j b l m p. h t i j c.loop-instant-test.true l m b p))) c.loop-instant-test.true)
 
 pub returns : goal.returns
 unfolding scanned
-returns g c test h =
-    sym (none_all (at_time c.args.sleds test) c.args.instants (λ k l. c.loop-instant.invariant test h k (omega (arith, c.loop-instant-test.false))))
+returns g c test h = found_below (at_time c.args.sleds test) c.args.instants (λ t y q k. search rules) (λ t y l k.
+    let told : (any : ℕ → ℕ → ℕ → Bool) → ((i j : ℕ) (b : Bool) → i < j → j < c.args.sleds → given.F-post g c.args.passes t i j b → b ≡ any t i j) → y ≡ at_time c.args.sleds any t = search rules in
+    told test (λ i j b m p k. h t i j l m p b k)) _ refl c.find_map.result c.find_map.ensures.runs

@@ -1,4 +1,4 @@
-use Rattle.std.proofs.Common.{◌≡◌, ℕ, ◌<◌, false}
+use Rattle.std.proofs.Common.{ℕ, ◌<◌, false}
 use Rattle.engine.proofs.scan.first_with.Given as goal
 
 abbrev pub invariant-loop-second : goal.invariant-loop-second

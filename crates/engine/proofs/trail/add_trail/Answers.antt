@@ -1,4 +1,5 @@
-use Rattle.std.proofs.Common.{List, get_or, sym, ap, ◌∙◌, subst, arith}
+use Rattle.std.proofs.Common.{List, length, get_or, sym, ap, ◌∙◌, subst, arith}
+use Rattle.few.specs.Told.{told}
 use Rattle.tree.specs.Constraints as constraints
 use Rattle.engine.specs.declared.node.Node.{Node}
 use Rattle.engine.specs.Table.{Tracks, blank, empty}
@@ -21,8 +22,8 @@ loop-at-preserved c =
     let lower = formed_lower k (get_or table k empty) b c.in-Some.is (formed k inv.0) in (
       omega (arith, inv.0, lower),
       elim c.if-own-sled.branch [
-        | then-own-sled w ↦ omega (arith, inv.1, lower, w.add.ensures.count, ap (λ (x : Forbidden). x.count) w.forbidden-is)
-        | else-own-sled w ↦ omega (arith, inv.1, lower, ap (λ (x : Forbidden). x.count) w.forbidden-is)
+        | then-own-sled w ↦ omega (arith, inv.1, lower, w.add.ensures.room, ap (λ (x : Forbidden). length (told x.moves)) w.forbidden-is)
+        | else-own-sled w ↦ omega (arith, inv.1, lower, ap (λ (x : Forbidden). length (told x.moves)) w.forbidden-is)
       ],
       λ m xs all t h.
           let tr = (get_or xs (get_or table k empty).parent blank).trail in

@@ -1,4 +1,4 @@
-use Rattle.std.proofs.Common.{◌≡◌, ℕ, Some, Option, ap, ◌∙◌}
+use Rattle.std.proofs.Common.{ℕ, Some, Option, ap, ◌∙◌}
 use Rattle.engine.specs.Table.{plan_of}
 use Rattle.engine.proofs.Calling.{told_makespan}
 use Rattle.engine.proofs.state.Engine.makespan.Goals as goal

@@ -4,7 +4,7 @@ use Rattle.tree.specs.Tree as tree
 use Rattle.engine.specs.declared.node.Node.{Node}
 use Rattle.engine.specs.declared.node.Verdict.{Verdict}
 use Rattle.engine.specs.Model.{search_of}
-use Rattle.engine.specs.Table.{Follows, plan_of, verdict_of, empty}
+use Rattle.engine.specs.Table.{Follows, plan_of, empty}
 use Rattle.engine.specs.Least.{CheapestSoFar}
 use Rattle.engine.proofs.Turning.{real_conflict, turn_none, turn_solved, turn_full, turn_on, engine_rests}
 use Rattle.engine.proofs.state.Engine.turn.Goals as goal
