@@ -11,7 +11,7 @@ pub(crate) fn pair_at(i: usize, j: usize, u: u8, v: u8) -> Option<Pair>
     Some(Pair {
         i: u8::try_from(i).ok()?,
         j: u8::try_from(j).ok()?,
-        u: Place::from_number(u),
-        v: Place::from_number(v),
+        u: Place::from(u),
+        v: Place::from(v),
     })
 }

@@ -65,7 +65,7 @@ fn short_rows_are_refused_and_kept(rt: HostRuntime) -> Result<(), Fail> {
     ) {
         Ok(_) => Err(Fail::new("not refused")),
         Err(fault) => {
-            assert_eq!(rt; fault.cause.number(), 16);
+            assert_eq!(rt; u8::from(fault.cause), 16);
             assert!(rt; row[0].value == 7 && spare[254].value == 7);
             Ok(())
         }
