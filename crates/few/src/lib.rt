@@ -13,6 +13,7 @@ pub struct Few<T, const N: usize> {
     ghost whole: { length items ≡ N },
 }
 
+// By hand: over ghost fields there is no derive for items of any type.
 impl<T: Copy, const N: usize> Clone for Few<T, N> {
     fn clone(&self) -> Result<Self, AllocError> {
         Ok(*self)

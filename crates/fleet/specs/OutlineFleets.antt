@@ -11,12 +11,16 @@ use Rattle.fleet.specs.Outlined.{outline, is_drawn}
 use Rattle.fleet.specs.ShapeFleets.{shapes_of, sled_count, seventh}
 use Rattle.fleet.specs.Refusals.{Judged}
 
+-- at most six sleds, an outline each
+abbrev pub Outlines : Type 0
+Outlines = Shapes Outline
+
 -- the eight rows of each sled, in the order in which they were given
-abbrev pub all_rows : Shapes Outline → List (List ℕ)
+abbrev pub all_rows : Outlines → List (List ℕ)
 all_rows f = map (λ o. o.rows) (shapes_of f)
 
 -- the offsets of each sled
-abbrev pub outline_sleds : Shapes Outline → Sleds
+abbrev pub outline_sleds : Outlines → Sleds
 outline_sleds f = sleds_of (λ o. outline o.rows) (shapes_of f)
 
 -- the outline of eight rows, where some cell is drawn
@@ -29,6 +33,6 @@ abbrev pub outline_fault : List ℕ → (n : ℕ) → Option Fault
 outline_fault rows n = cond (is_drawn rows) (seventh n) (Some (fault_at ValueOutsideLimits 0))
 
 -- one sled more, after those before
-abbrev pub Drawn : List ℕ → (before after : Shapes Outline) → Result (Unit {0}) Fault → Type 0
+abbrev pub Drawn : List ℕ → (before after : Outlines) → Result (Unit {0}) Fault → Type 0
 Drawn rows before after =
     Judged (outline_fault rows (sled_count before)) before after (all_rows after ≡ all_rows before ++ (rows ∷ []))

@@ -15,15 +15,19 @@ use Rattle.fleet.specs.Refusals.{Judged}
 abbrev pub rectangle : (width height : ℕ) → Offsets
 rectangle w h x y = from_0_below x w && from_0_below y h
 
+-- at most six sleds, a rectangle each
+abbrev pub Rectangles : Type 0
+Rectangles = Shapes Rectangle
+
 abbrev pub sides_of : Rectangle → ℕ × ℕ
 sides_of r = (r.width, r.height)
 
 -- width and height of each sled, in the order in which they were given
-abbrev pub all_sides : Shapes Rectangle → List (ℕ × ℕ)
+abbrev pub all_sides : Rectangles → List (ℕ × ℕ)
 all_sides f = map sides_of (shapes_of f)
 
 -- the offsets of each sled
-abbrev pub rectangle_sleds : Shapes Rectangle → Sleds
+abbrev pub rectangle_sleds : Rectangles → Sleds
 rectangle_sleds f = sleds_of (λ r. rectangle r.width r.height) (shapes_of f)
 
 -- a side is from 1 to 8
@@ -41,6 +45,6 @@ rectangle_fault w h n =
     cond (side_ok w && side_ok h) (seventh n) (Some (fault_at ValueOutsideLimits 0))
 
 -- one sled more, after those before
-abbrev pub Added : (width height : ℕ) → (before after : Shapes Rectangle) → Result (Unit {0}) Fault → Type 0
+abbrev pub Added : (width height : ℕ) → (before after : Rectangles) → Result (Unit {0}) Fault → Type 0
 Added w h before after =
     Judged (rectangle_fault w h (sled_count before)) before after (all_sides after ≡ all_sides before ++ ((w, h) ∷ []))

@@ -51,11 +51,12 @@ impl Shape for Outline {
 
 impl Shapes<Outline> {
     ghost use Rattle.std.specs.Prelude.{[]};
+    ghost use Rattle.fleet.specs.ShapeFleets.{sled_count};
     ghost use Rattle.fleet.specs.OutlineFleets.{all_rows, Drawn};
 
     // No sled yet.
     pub fn new() -> Outlines
-        ensures { all_rows result ≡ [] }
+        ensures { (all_rows result ≡ []) × (sled_count result ≡ 0) }
     {
         Shapes::none(Outline { rows: [1; 8] })
     }

@@ -55,11 +55,12 @@ impl Shape for Rectangle {
 
 impl Shapes<Rectangle> {
     ghost use Rattle.std.specs.Prelude.{[]};
+    ghost use Rattle.fleet.specs.ShapeFleets.{sled_count};
     ghost use Rattle.fleet.specs.RectangleFleets.{all_sides, Added};
 
     // No sled yet.
     pub fn new() -> Rectangles
-        ensures { all_sides result ≡ [] }
+        ensures { (all_sides result ≡ []) × (sled_count result ≡ 0) }
     {
         Shapes::none(Rectangle {
             width: 1,

@@ -68,6 +68,7 @@ impl<S: Shape> Fleet for Shapes<S> {
     }
 
     fn has(&self, sled: u8, dx: i8, dy: i8) -> bool {
+        // A match: for `is_some_and` the closure would need clauses of its own.
         match self.sleds.as_slice().get(sled as usize) {
             Some(shape) => shape.has(dx, dy),
             None => false,

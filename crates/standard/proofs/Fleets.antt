@@ -5,15 +5,15 @@ use Rattle.std.proofs.lemmas.Bool.{and_from, and_left, and_right, cases_lt, le-l
 use Rattle.fault.specs.declared.cause.Fault.{Fault}
 use Rattle.fleet.specs.declared.skirt.Skirt.{Skirt}
 use Rattle.fleet.specs.declared.convoy.Convoy.{Convoy}
-use Rattle.fleet.specs.declared.rectangles.Rectangles.{Rectangles}
-use Rattle.fleet.specs.declared.outlines.Outlines.{Outlines}
 use Rattle.fleet.specs.Offsets.{Offsets}
 use Rattle.fleet.specs.Lists.{sleds_of}
-use Rattle.fleet.specs.RectangleFleets.{all_sides, rectangle}
-use Rattle.fleet.specs.OutlineFleets.{all_rows}
+use Rattle.fleet.specs.ShapeFleets.{shapes_of, sled_count}
+use Rattle.fleet.specs.RectangleFleets.{Rectangles, sides_of, all_sides, rectangle}
+use Rattle.fleet.specs.OutlineFleets.{Outlines, all_rows}
 use Rattle.fleet.specs.Outlined.{outline}
 use Rattle.fleet.specs.Scans.{in_row}
 use Rattle.fleet.specs.SkirtFleets.{skirt, is_cut, skirt_fault, margins_of, margin_of, no_margin}
+use Rattle.fleet.specs.SledLists.{sled_at, no_sled}
 use Rattle.fleet.specs.ScansLemmas.{within_none}
 use Rattle.job.specs.declared.job.Job.{Job}
 use Rattle.job.specs.declared.shape.Shape.TheVariants.{Drawing}
@@ -22,11 +22,11 @@ use Rattle.job.specs.Facts.{facts}
 use Rattle.job.specs.Jobs.{smallest_sled}
 use Rattle.standard.specs.Collected.{all_sides_of, all_rows_of}
 use Rattle.standard.specs.JobFleets.{shape_offsets, sled_offsets, job_sleds, convoy_offsets, fleet_size, fleet_sleds}
-use Rattle.standard.proofs.Collecting.{all_collected, count_of_rectangles, count_of_outlines}
+use Rattle.standard.proofs.Collecting.{all_collected}
 use Rattle.standard.proofs.Limits.{told_limited, at_most_six}
 use Rattle.standard.proofs.Offsets.{not_cut}
 use Rattle.standard.proofs.Order.{rectangle_shape, shapes_in_order}
-use Rattle.standard.proofs.SledLists.{sled_at, no_sled, sleds_of_append, sleds_of_map}
+use Rattle.standard.proofs.SledLists.{sleds_of_append, sleds_of_map}
 
 -- the fleet has the shapes of all sleds, and the skirts of the first n
 pub record Built (sleds : List SledValue) (n : ℕ) (f : Skirt (Convoy Rectangles Outlines)) : Type 0 where
@@ -54,6 +54,12 @@ two_kinds sides rows s x y =
     sleds_of_append shape_offsets (map rectangle_shape sides) (map Drawing rows) s x y
     ∙ rw (length-map sides rectangle_shape, sleds_of_map shape_offsets rectangle_shape sides s x y, sleds_of_map shape_offsets Drawing rows (s - length sides) x y)
 
+-- a convoy of rectangles and outlines has the shapes that both were given
+convoy_is : (c : Convoy Rectangles Outlines) (s : ℕ) (x y : ℤ) → convoy_offsets c s x y ≡ (ltb s 6 && cond (ltb s (length (all_sides c.first))) (sleds_of (λ r. rectangle r.0 r.1) (all_sides c.first) s x y) (sleds_of outline (all_rows c.second) (s - length (all_sides c.first)) x y))
+convoy_is c s x y =
+    let n = sled_count c.first in
+    rw (length-map (shapes_of c.first) sides_of, sleds_of_map (λ r. rectangle r.0 r.1) sides_of (shapes_of c.first) s x y, sleds_of_map outline (λ o. o.rows) (shapes_of c.second) (s - n) x y)
+
 -- a sled without offsets has none with a skirt
 skirt_of_none : (m : ℕ) (x y : ℤ) → skirt m (λ _ _. false) x y ≡ false
 unfolding in_row
@@ -62,8 +68,8 @@ skirt_of_none m x y = and_right _ _ (within_none m y _ (λ _ _. within_none m x 
 module _ (j : Job) (n : ℕ) (f : Skirt (Convoy Rectangles Outlines)) (built : Built (facts j).sleds n f) where
   pub size_is : fleet_size f ≡ length (facts j).sleds
   size_is =
-      let first = count_of_rectangles f.inner.first in
-      let second = count_of_outlines f.inner.second in
+      let first = length-map (shapes_of f.inner.first) sides_of in
+      let second = length-map (shapes_of f.inner.second) (λ o. o.rows) in
       let a = ap length built.rectangles in
       let b = ap length built.outlines in
       let all = all_collected (facts j).sleds in
@@ -80,9 +86,8 @@ module _ (j : Job) (n : ℕ) (f : Skirt (Convoy Rectangles Outlines)) (built : B
       (λ below.
       let sides = all_sides f.inner.first in
       let rows = all_rows f.inner.second in
-      let behind = λ (n : ℕ). cond (ltb s n) (sleds_of (λ r. rectangle r.0 r.1) sides s x y) (sleds_of outline rows (s - n) x y) in
-      ap (λ b. b && behind f.inner.first.count) (lt-ltb s 6 below)
-      ∙ (ap behind (sym (count_of_rectangles f.inner.first))
+      convoy_is f.inner s x y
+      ∙ (ap (λ b. b && cond (ltb s (length sides)) (sleds_of (λ r. rectangle r.0 r.1) sides s x y) (sleds_of outline rows (s - length sides) x y)) (lt-ltb s 6 below)
       ∙ (sym (two_kinds sides rows s x y)
       ∙ (ap (λ shapes. sleds_of shape_offsets shapes s x y) (sym shapes_are)
       ∙ sleds_of_map shape_offsets (λ v. v.shape) (facts j).sleds s x y))))

@@ -1,8 +1,15 @@
 -- What a job says of each of its sleds.
-use Rattle.std.proofs.Common.{◌≡◌, ℕ, ◌<◌, ◌≤◌, true, false, not, leb, length, get_or, take, sym, subst, arith}
-use Rattle.std.proofs.lemmas.List.{length-take, length-take-le}
+use Rattle.std.proofs.Common.{◌≡◌, ℕ, ◌<◌, ◌≤◌, true, false, not, leb, List, length, get_or, take, Ok, Err, Result, sym, subst, arith}
+use Rattle.std.proofs.lemmas.List.{length-take, length-take-le, length-map}
+use Rattle.std.proofs.lemmas.Bool.Decides.{nat_tests}
 use Rattle.std.proofs.lemmas.Bool.{and_parts, not-true, leb-true}
+use Rattle.fault.specs.declared.cause.Fault.{Fault}
+use Rattle.fleet.specs.Outlined.{is_drawn}
+use Rattle.fleet.specs.ShapeFleets.{shapes_of}
+use Rattle.fleet.specs.RectangleFleets.{Rectangles, sides_of, all_sides, Added}
+use Rattle.fleet.specs.OutlineFleets.{Outlines, all_rows, Drawn}
 use Rattle.job.specs.declared.job.Job.{Job}
+use Rattle.job.specs.declared.shape.Shape.TheVariants.{Rectangle}
 use Rattle.job.specs.declared.sled_value.SledValue.{SledValue}
 use Rattle.job.specs.Facts.{facts}
 use Rattle.job.specs.Jobs.{smallest_sled}
@@ -41,3 +48,16 @@ room j n below =
     let all = all_collected (take n (facts j).sleds) in
     let front = length-take-le n (facts j).sleds (omega arith) in
     (omega arith, omega arith)
+
+-- a sled's shape is not turned away where there is room
+pub rectangle_taken : (w h : ℕ) (before after : Rectangles) (result : Result (Unit {0}) Fault) (e : Fault) → shape_ok (Rectangle w h) ≡ true → length (all_sides before) < 6 → Added w h before after result → result ≡ Err e → ⊥
+rectangle_taken w h before after (Ok _) e ok room added refused = cc
+rectangle_taken w h before after (Err _) e ok room added refused =
+    let count = length-map (shapes_of before) sides_of in
+    grind (arith, nat_tests, count, added.0, ok)
+
+pub outline_taken : (rows : List ℕ) (before after : Outlines) (result : Result (Unit {0}) Fault) (e : Fault) → is_drawn rows ≡ true → length (all_rows before) < 6 → Drawn rows before after result → result ≡ Err e → ⊥
+outline_taken rows before after (Ok _) e ok room added refused = cc
+outline_taken rows before after (Err _) e ok room added refused =
+    let count = length-map (shapes_of before) (λ o. o.rows) in
+    grind (arith, nat_tests, count, added.0, ok)

@@ -1,12 +1,14 @@
 -- The offsets of a shape within its limits lie from 0 to 7 and are those that the job counts.
-use Rattle.std.proofs.Common.{◌≡◌, ℕ, suc, ◌-◌, ◌<◌, ◌≤◌, true, false, not, ◌&&◌, eqb, List, [], ◌∷◌, length, get_or, ℤ, pos, negsuc, sym, refl, ◌∙◌, ⊎_elim, arith}
+use Rattle.std.proofs.Common.{◌≡◌, ℕ, suc, ◌-◌, ◌%◌, ◌<◌, ◌≤◌, ◌==◌, true, false, not, ◌&&◌, List, [], ◌∷◌, length, get_or, ℤ, pos, negsuc, sym, refl, ap, ◌∙◌, ⊎_elim, arith}
 use Rattle.std.proofs.lemmas.Int.{ints}
-use Rattle.std.proofs.lemmas.Bool.{and_parts, and_from, or_cases, not-true, cases_Bool, both_ways, false≢true, eq-eqb}
+use Rattle.std.specs.List.{All, list_any}
+use Rattle.std.proofs.lemmas.List.{take_all}
+use Rattle.std.proofs.lemmas.List.Elements.{All-from_get_or}
+use Rattle.std.proofs.lemmas.Bool.{and_parts, and_from, or_cases, or_right, not-true, cases_Bool, both_ways, false≢true}
 use Rattle.std.proofs.lemmas.Bool.Decides.{nat_tests}
 use Rattle.fleet.specs.Scans.{within}
 use Rattle.fleet.specs.Outlined.{is_drawn}
 use Rattle.fleet.specs.SkirtFleets.{reaches_past, is_cut}
-use Rattle.fleet.specs.Cells.{row_found}
 use Rattle.fleet.specs.ScansLemmas.{offset_is}
 use Rattle.job.specs.declared.shape.Shape.{Shape}
 use Rattle.job.specs.declared.shape.Shape.TheVariants.{Rectangle, Drawing}
@@ -59,17 +61,17 @@ module _ (shape : Shape) (m : ℕ) (small : m ≤ 3) (ok : shape_ok shape ≡ tr
       (λ e. e)
       (cases_Bool (is_cut m (shape_offsets shape)))
 
-some_row_at : (rows : List ℕ) → some_row rows ≡ true → (k : ℕ) × (k < length rows) × (get_or rows k 0 ≡ 0 → ⊥)
-some_row_at [] e = absurd (false≢true e)
-some_row_at (row ∷ rows) e =
+some_byte : (rows : List ℕ) → All (λ row. row < 256) rows → some_row rows ≡ true → list_any (λ row. not (row % 256 == 0)) rows ≡ true
+some_byte [] bytes e = absurd (false≢true e)
+some_byte (row ∷ rows) bytes e =
+    let first : row < 256 = bytes 0 0 (omega arith) in
     ⊎_elim
-    (λ here. (0, omega arith, λ z. both_ways _ (not-true (eqb row 0) here) (eq-eqb row 0 z)))
-    (λ later. let (k, below, some) = some_row_at rows later in (suc k, omega arith, some))
-    (or_cases (not (eqb row 0)) (some_row rows) e)
+    (λ here. grind (arith, nat_tests, here))
+    (λ later. or_right _ _ (some_byte rows (λ k d below. bytes (suc k) d (omega arith)) later))
+    (or_cases (not (row == 0)) (some_row rows) e)
 
 -- eight bytes with some row are drawn
 pub is_outline : (rows : List ℕ) → length rows ≡ 8 → ((k : ℕ) → k < 8 → get_or rows k 0 < 256) → some_row rows ≡ true → is_drawn rows ≡ true
 is_outline rows whole bytes some =
-    let (k, below, row) = some_row_at rows some in
-    let short : k < 8 = omega arith in
-    row_found rows k short (bytes k short) row
+    let all = All-from_get_or (λ row. row < 256) rows 0 (λ k below. bytes k (omega arith)) in
+    ap (list_any (λ row. not (row % 256 == 0))) (take_all 8 rows (omega arith)) ∙ some_byte rows all some

@@ -1,22 +1,11 @@
--- Fleets that are lists of sleds: an entry, a list after another, and a list by another view.
-use Rattle.std.proofs.Common.{◌≡◌, ℕ, zero, suc, ◌-◌, ◌<◌, ◌≤◌, false, cond, ltb, List, [], ◌∷◌, ◌++◌, map, length, get_or, ℤ, sym, refl, ap, ◌∙◌, arith}
+-- Fleets that are lists of sleds: a list after another, and a list by another view.
+use Rattle.std.proofs.Common.{◌≡◌, ℕ, zero, suc, ◌-◌, cond, ltb, List, [], ◌∷◌, ◌++◌, map, length, ℤ, sym, refl, ap, ◌∙◌, arith}
 use Rattle.std.proofs.lemmas.Bool.{cond-true, cond-false, le-ltb, lt-ltb}
 use Rattle.std.proofs.lemmas.Bool.Decides.{nat_tests}
 use Rattle.fleet.specs.Offsets.{Offsets}
 use Rattle.fleet.specs.Lists.{sleds_of}
 
 module _ {A : Type 0} (set : A → Offsets) where
-  -- a sled of a list has the set of its entry
-  pub sled_at : (xs : List A) (s : ℕ) (d : A) → s < length xs → (x y : ℤ) → sleds_of set xs s x y ≡ set (get_or xs s d) x y
-  sled_at [] s d below x y = absurd (omega arith)
-  sled_at (a ∷ rest) zero d below x y = refl
-  sled_at (a ∷ rest) (suc s) d below x y = sled_at rest s d (omega arith) x y
-
-  pub no_sled : (xs : List A) (s : ℕ) → length xs ≤ s → (x y : ℤ) → sleds_of set xs s x y ≡ false
-  no_sled [] s past x y = refl
-  no_sled (a ∷ rest) zero past x y = absurd (omega arith)
-  no_sled (a ∷ rest) (suc s) past x y = no_sled rest s (omega arith) x y
-
   pub sleds_of_append : (xs ys : List A) (s : ℕ) (x y : ℤ) → sleds_of set (xs ++ ys) s x y ≡ cond (ltb s (length xs)) (sleds_of set xs s x y) (sleds_of set ys (s - length xs) x y)
   sleds_of_append [] ys s x y =
       let e : s ≡ s - 0 = omega arith in

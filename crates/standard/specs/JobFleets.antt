@@ -5,14 +5,13 @@ use Rattle.job.specs.declared.shape.Shape.TheVariants.{Rectangle, Drawing}
 use Rattle.job.specs.declared.sled_value.SledValue.{SledValue}
 use Rattle.fleet.specs.declared.skirt.Skirt.{Skirt}
 use Rattle.fleet.specs.declared.convoy.Convoy.{Convoy}
-use Rattle.fleet.specs.declared.rectangles.Rectangles.{Rectangles}
-use Rattle.fleet.specs.declared.outlines.Outlines.{Outlines}
 use Rattle.fleet.specs.Offsets.{Offsets, Sleds}
 use Rattle.fleet.specs.Lists.{sleds_of}
 use Rattle.fleet.specs.Convoys.{convoy_size, convoy_sleds}
-use Rattle.fleet.specs.RectangleFleets.{rectangle, rectangle_sleds}
+use Rattle.fleet.specs.ShapeFleets.{sled_count}
+use Rattle.fleet.specs.RectangleFleets.{Rectangles, rectangle, rectangle_sleds}
 use Rattle.fleet.specs.Outlined.{outline}
-use Rattle.fleet.specs.OutlineFleets.{outline_sleds}
+use Rattle.fleet.specs.OutlineFleets.{Outlines, outline_sleds}
 use Rattle.fleet.specs.SkirtFleets.{skirt, margin_of}
 
 -- the offsets of a shape
@@ -30,10 +29,10 @@ job_sleds sleds = sleds_of sled_offsets sleds
 
 -- the number of sleds of a convoy of rectangles and outlines, and the offsets of each
 abbrev pub convoy_count : Convoy Rectangles Outlines → ℕ
-convoy_count c = convoy_size c.first.count c.second.count
+convoy_count c = convoy_size (sled_count c.first) (sled_count c.second)
 
 abbrev pub convoy_offsets : Convoy Rectangles Outlines → Sleds
-convoy_offsets c = convoy_sleds c.first.count (rectangle_sleds c.first) (outline_sleds c.second)
+convoy_offsets c = convoy_sleds (sled_count c.first) (rectangle_sleds c.first) (outline_sleds c.second)
 
 -- the number of sleds of a skirt over such a convoy, and the offsets of each
 abbrev pub fleet_size : Skirt (Convoy Rectangles Outlines) → ℕ

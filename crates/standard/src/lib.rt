@@ -5,7 +5,7 @@ ghost use Rattle.std.specs.Prelude.{◌≡◌, ℕ, length, ℤ};
 ghost use Rattle.job.specs.Facts.{facts};
 ghost use Rattle.standard.specs.JobFleets.{fleet_size, fleet_sleds, job_sleds};
 
-use crate::shapes::{outlines_of, rectangles_of};
+use crate::shapes::shapes_of;
 use fleet::Fleet;
 use fleet::convoy::Convoy;
 use fleet::outlines::Outlines;
@@ -22,7 +22,7 @@ pub fn fleet_of(job: &Job) -> JobFleet
     ensures size { fleet_size result ≡ length (facts job.now).sleds }
     ensures offsets { (s : ℕ) (x y : ℤ) → fleet_sleds result s x y ≡ job_sleds (facts job.now).sleds s x y }
 {
-    let mut fleet = Skirt::new(Convoy::new(rectangles_of(job), outlines_of(job)));
+    let mut fleet = Skirt::new(shapes_of(job));
     for number in 0..job.sled_count() {
         let Some(sled) = job.sled(number) else {
             unreachable()

@@ -10,8 +10,8 @@ pub loop-number-init : goal.loop-number-init
 loop-number-init c =
     let convoy = c.new-fleet.ensures.fleet in
     record {
-      rectangles = ap (λ c. all_sides c.first) convoy ∙ (ap all_sides c.new.ensures.first ∙ c.rectangles_of.ensures);
-      outlines = ap (λ c. all_rows c.second) convoy ∙ (ap all_rows c.new.ensures.second ∙ c.outlines_of.ensures);
+      rectangles = ap (λ c. all_sides c.first) convoy ∙ c.shapes_of.ensures.rectangles;
+      outlines = ap (λ c. all_rows c.second) convoy ∙ c.shapes_of.ensures.outlines;
       skirts = λ k below. absurd (omega arith);
     }
 
