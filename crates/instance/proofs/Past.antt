@@ -1,22 +1,20 @@
 -- The sleds of a job, and what comes past the last: starts and goals are the place of number 0.
-use Rattle.std.proofs.Common.{◌≡◌, ℕ, ◌≤◌, length, sym, ap, arith, length-take}
+use Rattle.std.proofs.Common.{◌≡◌, ℕ, ◌≤◌, length, sym, ap, arith}
 use Rattle.std.proofs.lemmas.List.{get_or_past}
 use Rattle.job.specs.declared.job.Job.{Job}
 use Rattle.job.specs.declared.sled_value.SledValue.{SledValue}
 use Rattle.job.specs.Facts.{facts}
 use Rattle.job.specs.Jobs.{smallest_sled}
+use Rattle.job.proofs.SledLists.{sleds_few}
 use Rattle.plans.specs.Tasks.{sled_of}
 use Rattle.instance.specs.Ends.{EndsAre}
 
 module _ (job : Job) where
-  counted : length (facts job).sleds ≡ job.sleds.count
-  counted = simp length-take (omega (arith, job.sleds.few, job.sleds.whole))
-
   pub some_sleds : 1 ≤ length (facts job).sleds
-  some_sleds = omega (arith, counted, job.some_sled)
+  some_sleds = job.some_sled
 
   pub few_sleds : length (facts job).sleds ≤ 6
-  few_sleds = omega (arith, counted, job.sleds.few)
+  few_sleds = sleds_few job.sleds
 
   pub ends_past : (s : ℕ) → length (facts job).sleds ≤ s → EndsAre (sled_of job s) (record { start = 0; goal = 0 })
   ends_past s beyond =

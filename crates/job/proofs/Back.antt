@@ -21,6 +21,7 @@ use Rattle.job.specs.Told.{decode, sleds_at, sleds_from, sleds_of, field_size}
 use Rattle.job.proofs.Steps.{following}
 use Rattle.job.specs.declared.job.Job.{Job}
 use Rattle.job.specs.Facts.{facts}
+use Rattle.job.proofs.SledLists.{sleds_few}
 use Rattle.job.proofs.Whole.{from_sleds, sleds_here}
 use Rattle.std.proofs.lemmas.Nat.{mul-le}
 
@@ -168,14 +169,13 @@ sound_facts : (j : Job) → SoundFacts (facts j)
 sound_facts j =
     let f = j.floor in
     let fits = mul-le f.columns f.rows 16 16 f.narrow f.short in
-    let long = length-take-le j.sleds.count j.sleds.list (omega (arith, j.sleds.few, j.sleds.whole)) in
     record {
       horizon_ok = and_from _ _ (le-leb _ _ j.lasting) (le-leb _ _ j.ending);
       limit_ok = and_from _ _ (le-leb _ _ j.some_nodes) (le-leb _ _ j.few_nodes);
       sides_ok = and_from _ _ (and_from _ _ (le-leb _ _ f.wide) (le-leb _ _ f.narrow)) (and_from _ _ (le-leb _ _ f.tall) (le-leb _ _ f.short));
       cells_ok = length-take-le (f.columns * f.rows) f.cells (omega (arith, fits, f.whole));
-      some = omega (arith, long, j.some_sled);
-      few = omega (arith, long, j.sleds.few);
+      some = j.some_sled;
+      few = sleds_few j.sleds;
       sound = j.sound;
     }
 

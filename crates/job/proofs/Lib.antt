@@ -5,5 +5,6 @@ pub mod Found
 pub mod Limits
 pub mod Part
 pub mod Scans
+pub mod SledLists
 pub mod Steps
 pub mod Whole

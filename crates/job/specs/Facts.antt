@@ -1,6 +1,5 @@
 -- A job by what its file tells.
 use Rattle.std.specs.Prelude.{◌≡◌, ℕ, ◌<◌, ◌≤◌, List, [], ◌∷◌, length, Some, None, Ok, Err, Option, Result, ◌≢◌, slice_index_or}
-use Rattle.grid.specs.Places.{position_of}
 use Rattle.job.specs.declared.sled.Sled.{Sled}
 use Rattle.job.specs.declared.sled_value.SledValue.{SledValue}
 use Rattle.std.specs.List.{AllByRecursion}
@@ -8,6 +7,7 @@ use Rattle.fault.specs.declared.cause.Fault.{Fault}
 use Rattle.grid.specs.declared.cell.Cell.TheVariants.{Free}
 use Rattle.job.specs.declared.job.Job.{Job}
 use Rattle.job.specs.Format.{JobFacts, encode}
+pub use Rattle.job.specs.Jobs.{values_of}
 use Rattle.job.specs.Jobs.{sleds_told, smallest_sled}
 use Rattle.job.specs.Reading.{floor_facts}
 use Rattle.job.specs.Told.{decode}
@@ -18,10 +18,6 @@ facts j = record { horizon = j.horizon; limit = j.limit; floor = floor_facts j.f
 -- one step, one node, one free cell, and the smallest sled
 abbrev pub smallest : JobFacts
 smallest = record { horizon = 1; limit = 1; floor = record { columns = 1; rows = 1; cells = Free ∷ [] }; sleds = smallest_sled ∷ [] }
-
--- a sled by the values of its field
-abbrev pub values_of : Sled → SledValue
-values_of s = record { shape = s.shape; skirt = s.skirt; start = position_of s.start; goal = position_of s.goal }
 
 -- the sled of a number; none past the last
 abbrev pub SledIs : List SledValue → ℕ → Option Sled → Type 0

@@ -1,7 +1,8 @@
 // The fields of a job file: a tag, a length of two bytes, and a value.
-// `rest` is the file from the field on, and `at` is the byte that it begins with.
-ghost use Rattle.std.specs.Prelude.{◌≡◌};
+ghost use Rattle.std.specs.Prelude.{◌≡◌, ◌≤◌, length, drop};
+ghost use Rattle.fault.specs.Causes.{fault_at};
 ghost use Rattle.job.specs.Reading.{header_of, one_byte, horizon_of, limit_of};
+ghost use Rattle.job.specs.Values.{check_value};
 
 use crate::value::Value;
 use fault::cause::{Cause, Fault};
@@ -16,47 +17,79 @@ pub(crate) struct Header {
     pub size: u16,
 }
 
-pub(crate) fn read_header(rest: &[u8], at: usize) -> Result<Header, Fault>
-    ensures { result ≡ header_of at rest.now }
-{
-    match rest {
-        [tag, high, low, ..] => Ok(Header {
-            tag: *tag,
-            size: 256 * *high as u16 + *low as u16,
-        }),
-        _ => Err(Cause::EndsInsideField.at(at)),
+// The file from a field on, and the byte that the field begins with.
+#[derive(Clone, Copy)]
+pub(crate) struct Field<'a> {
+    pub rest: &'a [u8],
+    pub at: usize,
+}
+
+impl<'a> Field<'a> {
+    pub(crate) fn of(file: &'a [u8], at: usize) -> Field<'a>
+        requires { at ≤ length file.now }
+        ensures rest { result.rest.now ≡ drop at file.now }
+        ensures at { result.at ≡ at }
+    {
+        Field {
+            rest: &file[at..],
+            at,
+        }
+    }
+
+    pub(crate) fn refused(self, cause: Cause) -> Fault
+        ensures { result ≡ fault_at cause self.entry.at }
+    {
+        cause.at(self.at)
+    }
+
+    pub(crate) fn header(self) -> Result<Header, Fault>
+        ensures { result ≡ header_of self.entry.at self.entry.rest.now }
+    {
+        match self.rest {
+            [tag, high, low, ..] => Ok(Header {
+                tag: *tag,
+                size: 256 * u16::from(*high) + u16::from(*low),
+            }),
+            _ => Err(self.refused(Cause::EndsInsideField)),
+        }
+    }
+
+    // Refuses a value outside its limits.
+    pub(crate) fn check(self, value: Value) -> Result<(), Fault>
+        ensures { result ≡ check_value value self.entry.at }
+    {
+        let at = self.at;
+        value.fault().map_or(Ok(()), |cause| Err(cause.at(at)))
+    }
+
+    // The value, where the field has the tag and one byte.
+    fn byte(self, tag: u8) -> Result<u8, Fault>
+        ensures { result ≡ one_byte tag self.entry.at self.entry.rest.now }
+    {
+        let header = self.header()?;
+        if header.tag != tag {
+            return Err(self.refused(Cause::TagNotDue));
+        }
+        if header.size != 1 {
+            return Err(self.refused(Cause::WrongLength));
+        }
+        let value = self.rest.get(HEADER).copied();
+        value.ok_or(self.refused(Cause::EndsInsideField))
     }
 }
 
-// The value of a field that has the tag and one byte.
-fn read_byte(rest: &[u8], at: usize, tag: u8) -> Result<u8, Fault>
-    ensures { result ≡ one_byte tag at rest.now }
+pub(crate) fn read_horizon(field: Field) -> Result<u8, Fault>
+    ensures { result ≡ horizon_of field.entry.at field.entry.rest.now }
 {
-    let header = read_header(rest, at)?;
-    if header.tag != tag {
-        return Err(Cause::TagNotDue.at(at));
-    }
-    if header.size != 1 {
-        return Err(Cause::WrongLength.at(at));
-    }
-    if rest.len() <= HEADER {
-        return Err(Cause::EndsInsideField.at(at));
-    }
-    Ok(rest[HEADER])
-}
-
-pub(crate) fn read_horizon(rest: &[u8], at: usize) -> Result<u8, Fault>
-    ensures { result ≡ horizon_of at rest.now }
-{
-    let steps = read_byte(rest, at, b'H')?;
-    Value::Horizon(steps).check(at)?;
+    let steps = field.byte(b'H')?;
+    field.check(Value::Horizon(steps))?;
     Ok(steps)
 }
 
-pub(crate) fn read_limit(rest: &[u8], at: usize) -> Result<u8, Fault>
-    ensures { result ≡ limit_of at rest.now }
+pub(crate) fn read_limit(field: Field) -> Result<u8, Fault>
+    ensures { result ≡ limit_of field.entry.at field.entry.rest.now }
 {
-    let nodes = read_byte(rest, at, b'N')?;
-    Value::Limit(nodes).check(at)?;
+    let nodes = field.byte(b'N')?;
+    field.check(Value::Limit(nodes))?;
     Ok(nodes)
 }

@@ -2,35 +2,38 @@
 ghost use Rattle.std.specs.Prelude.{◌≡◌, ◌≤◌, length};
 ghost use Rattle.job.specs.Reading.{floor_of, floor_facts, shown, CellsRead};
 
-use crate::field::{HEADER, read_header};
+use crate::field::{Field, HEADER};
 use crate::value::Value;
 use fault::cause::{Cause, Fault};
 use grid::cell::Cell;
 use grid::floor::Floor;
 
-pub(crate) fn read_floor(rest: &[u8], at: usize) -> Result<Floor, Fault>
-    ensures { shown floor_facts result ≡ floor_of at rest.now }
+// The cells come after the header and two bytes for the sides.
+const CELLS: usize = 5;
+
+pub(crate) fn read_floor(field: Field) -> Result<Floor, Fault>
+    ensures { shown floor_facts result ≡ floor_of field.entry.at field.entry.rest.now }
 {
-    let header = read_header(rest, at)?;
+    let header = field.header()?;
     if header.tag != b'F' {
-        return Err(Cause::TagNotDue.at(at));
+        return Err(field.refused(Cause::TagNotDue));
     }
     if header.size < 2 {
-        return Err(Cause::WrongLength.at(at));
+        return Err(field.refused(Cause::WrongLength));
     }
-    if rest.len() < HEADER + header.size as usize {
-        return Err(Cause::EndsInsideField.at(at));
+    let rest = field.rest;
+    if rest.len() < HEADER + usize::from(header.size) {
+        return Err(field.refused(Cause::EndsInsideField));
     }
-    let columns = rest[HEADER];
-    let rows = rest[HEADER + 1];
-    Value::Sides { columns, rows }.check(at)?;
-    let count = columns as usize * rows as usize;
-    if header.size as usize != 2 + count {
-        return Err(Cause::WrongLength.at(at));
+    let (columns, rows) = (rest[HEADER], rest[HEADER + 1]);
+    field.check(Value::Sides { columns, rows })?;
+    let count = usize::from(columns) * usize::from(rows);
+    if usize::from(header.size) != 2 + count {
+        return Err(field.refused(Cause::WrongLength));
     }
-    let Some(cells) = read_cells(&rest[HEADER + 2..HEADER + 2 + count]) else {
-        return Err(Cause::ValueOutsideLimits.at(at));
-    };
+    let cells = read_cells(&rest[CELLS..CELLS + count]).ok_or(field.refused(
+        Cause::ValueOutsideLimits,
+    ))?;
     match Floor::new(columns, rows, cells) {
         Some(floor) => Ok(floor),
         None => unreachable(),

@@ -7,7 +7,7 @@ pub mod job;
 pub mod shape;
 pub mod sled;
 mod sled_field;
-mod sled_value;
+pub mod sled_value;
 mod sleds;
 mod sleds_part;
 mod value;

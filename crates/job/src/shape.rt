@@ -59,23 +59,13 @@ impl Shape {
     pub(crate) fn outgrows(self, skirt: u8) -> bool
         ensures { result ≡ outgrown self skirt }
     {
-        for dy in 0..8u8 {
-            if self.row_outgrows(skirt, dy) {
-                return true;
-            }
-        }
-        false
+        (0..8u8).any(|dy| self.row_outgrows(skirt, dy))
     }
 
     fn row_outgrows(self, skirt: u8, dy: u8) -> bool
         ensures { result ≡ row_outgrown self skirt dy }
     {
-        for dx in 0..8u8 {
-            if self.has(dx, dy) && is_past(skirt, dx, dy) {
-                return true;
-            }
-        }
-        false
+        (0..8u8).any(|dx| self.has(dx, dy) && is_past(skirt, dx, dy))
     }
 }
 
@@ -90,10 +80,5 @@ fn is_past(skirt: u8, dx: u8, dy: u8) -> bool
 fn has_cell(rows: &[u8; 8]) -> bool
     ensures { result ≡ some_row rows.now }
 {
-    for row in rows.iter() {
-        if *row != 0 {
-            return true;
-        }
-    }
-    false
+    rows.iter().any(|row| *row != 0)
 }

@@ -1,11 +1,13 @@
 // The fields after the floor: a rectangular sled, a drawn sled, or the end.
-ghost use Rattle.std.specs.Prelude.{◌≡◌, ◌≤◌, length};
-ghost use Rattle.job.specs.Reading.{due_entry, entry_of, entry_size, placed_of, rectangle_of, drawing_of, within_limits, sled_of};
+ghost use Rattle.std.specs.Prelude.{◌≡◌, ◌≤◌, length, map, option_map};
+ghost use Rattle.job.specs.Jobs.{ends_drawn, values_of};
+ghost use Rattle.job.specs.Reading.{due_entry, entry_of, entry_size, placed_of, rectangle_of, drawing_of, within_limits, sled_of, shown};
 
-use crate::field::{HEADER, read_header};
+use crate::field::{Field, HEADER};
 use crate::shape::Shape;
-use crate::sled::MAX_SLEDS;
+use crate::sled::{MAX_SLEDS, Sled};
 use crate::sled_value::SledValue;
+use crate::sleds::ends_drawn;
 use crate::value::Value;
 use fault::cause::{Cause, Fault};
 use grid::floor::Floor;
@@ -43,26 +45,25 @@ impl Entry {
     }
 }
 
-// Which field stands here, after `count` sleds.
-fn read_entry(rest: &[u8], at: usize, count: usize, drawn: bool) -> Result<Entry, Fault>
-    ensures { result ≡ entry_of count drawn at rest.now }
+// Which field stands here, after these sleds.
+fn read_entry(field: Field, sleds: &[Sled]) -> Result<Entry, Fault>
+    ensures { result ≡ entry_of (length sleds.now) (ends_drawn (map values_of sleds.now)) field.entry.at field.entry.rest.now }
 {
-    let header = read_header(rest, at)?;
-    let Some(entry) = Entry::due(header.tag, drawn) else {
-        return Err(Cause::TagNotDue.at(at));
-    };
-    let is_end = matches!(entry, Entry::End);
-    if !is_end && count >= MAX_SLEDS {
-        return Err(Cause::SledCount.at(at));
+    let header = field.header()?;
+    let due = Entry::due(header.tag, ends_drawn(sleds));
+    let entry = due.ok_or(field.refused(Cause::TagNotDue))?;
+    let is_end = entry == Entry::End;
+    if !is_end && sleds.len() >= MAX_SLEDS {
+        return Err(field.refused(Cause::SledCount));
     }
     if header.size != entry.size() {
-        return Err(Cause::WrongLength.at(at));
+        return Err(field.refused(Cause::WrongLength));
     }
-    if is_end && count == 0 {
-        return Err(Cause::SledCount.at(at));
+    if is_end && sleds.is_empty() {
+        return Err(field.refused(Cause::SledCount));
     }
-    if rest.len() < HEADER + entry.size() as usize {
-        return Err(Cause::EndsInsideField.at(at));
+    if field.rest.len() < HEADER + usize::from(entry.size()) {
+        return Err(field.refused(Cause::EndsInsideField));
     }
     Ok(entry)
 }
@@ -107,31 +108,27 @@ fn drawing(value: &[u8]) -> SledValue
 }
 
 // The sled, once its values are within their limits.
-fn limited(sled: SledValue, at: usize, floor: &Floor) -> Result<Option<SledValue>, Fault>
-    ensures { result ≡ within_limits floor.now.columns floor.now.rows at sled }
+fn limited(field: Field, value: SledValue, floor: &Floor) -> Result<Option<Sled>, Fault>
+    ensures { shown (option_map values_of) result ≡ within_limits floor.now.columns floor.now.rows field.entry.at value }
 {
-    Value::Placed {
-        sled,
+    field.check(Value::Placed {
+        sled: value,
         columns: floor.columns(),
         rows: floor.rows(),
-    }
-    .check(at)?;
+    })?;
+    let sled = value
+        .sled()
+        .ok_or(field.refused(Cause::ValueOutsideLimits))?;
     Ok(Some(sled))
 }
 
-// The next sled, after `count` others, or nothing at the end.
-pub(crate) fn read_sled(
-    rest: &[u8],
-    at: usize,
-    floor: &Floor,
-    count: usize,
-    drawn: bool,
-) -> Result<Option<SledValue>, Fault>
-    ensures { result ≡ sled_of floor.now.columns floor.now.rows count drawn at rest.now }
+// The next sled after these, or nothing at the end.
+pub(crate) fn read_sled(field: Field, floor: &Floor, sleds: &[Sled]) -> Result<Option<Sled>, Fault>
+    ensures { shown (option_map values_of) result ≡ sled_of floor.now.columns floor.now.rows (length sleds.now) (ends_drawn (map values_of sleds.now)) field.entry.at field.entry.rest.now }
 {
-    match read_entry(rest, at, count, drawn)? {
-        Entry::Rectangle => limited(rectangle(&rest[HEADER..]), at, floor),
-        Entry::Drawing => limited(drawing(&rest[HEADER..]), at, floor),
+    match read_entry(field, sleds)? {
+        Entry::Rectangle => limited(field, rectangle(&field.rest[HEADER..]), floor),
+        Entry::Drawing => limited(field, drawing(&field.rest[HEADER..]), floor),
         Entry::End => Ok(None),
     }
 }

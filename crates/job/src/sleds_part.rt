@@ -4,9 +4,9 @@ ghost use Rattle.job.specs.Jobs.{sleds_told};
 ghost use Rattle.job.specs.Reading.{shown};
 ghost use Rattle.job.specs.Told.{sleds_of};
 
-use crate::field::HEADER;
+use crate::field::{Field, HEADER};
 use crate::sled_field::read_sled;
-use crate::sleds::Sleds;
+use crate::sleds::{Sleds, no_sleds};
 use fault::cause::{Cause, Fault};
 use grid::floor::Floor;
 
@@ -15,13 +15,12 @@ pub(crate) fn read_sleds(file: &[u8], start: usize, floor: &Floor) -> Result<Sle
     requires { start ≤ length file.now }
     ensures { shown sleds_told result ≡ sleds_of floor.now.columns floor.now.rows start false [] (drop start file.now) }
 {
-    let mut sleds = Sleds::none();
+    let mut sleds = no_sleds();
     let mut at = start;
-    let mut drawn = false;
-    while let Some(sled) = read_sled(&file[at..], at, floor, sleds.count(), drawn)? {
-        sleds.push(sled);
+    while let Some(sled) = read_sled(Field::of(file, at), floor, sleds.as_slice())? {
+        let added = sleds.push(sled);
+        added.map_err(|_| Cause::SledCount.at(at))?;
         at += sled.shape.field_size();
-        drawn = sled.shape.is_drawn();
     }
     if file.len() != at + HEADER {
         return Err(Cause::BytesAfterEnd.at(at + HEADER));

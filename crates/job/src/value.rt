@@ -1,9 +1,9 @@
 // What a field holds, by its tag, and whether that lies within its limits.
 ghost use Rattle.std.specs.Prelude.{◌≡◌};
-ghost use Rattle.job.specs.Values.{fault_of, check_value};
+ghost use Rattle.job.specs.Values.{fault_of};
 
 use crate::sled_value::SledValue;
-use fault::cause::{Cause, Fault};
+use fault::cause::Cause;
 
 #[derive(Clone, Copy)]
 pub(crate) enum Value {
@@ -22,6 +22,7 @@ pub(crate) enum Value {
 }
 
 impl Value {
+    // Why the value is refused, where it is outside its limits.
     pub(crate) fn fault(self) -> Option<Cause>
         ensures { result ≡ fault_of self }
     {
@@ -44,16 +45,6 @@ impl Value {
             Value::Horizon(_) | Value::Limit(_) | Value::Sides { .. } => Some(
                 Cause::ValueOutsideLimits,
             ),
-        }
-    }
-
-    // Refuses a value outside its limits, in the field at a byte.
-    pub(crate) fn check(self, at: usize) -> Result<(), Fault>
-        ensures { result ≡ check_value self at }
-    {
-        match self.fault() {
-            None => Ok(()),
-            Some(cause) => Err(cause.at(at)),
         }
     }
 }

@@ -1,24 +1,23 @@
 // Each sled alone: whether it may stand at its start and its goal, its first route of least cost, and how many there are.
+use crate::text::Route;
 use geometry::standing::may_stand;
-use grid::place::{BOARD_PLACES, Place};
+use grid::place::BOARD_PLACES;
 use job::job::Job;
 use job::sled::Sled;
 use standard::JobFleet;
 use standing::standing_places;
 use walk::count::Count;
 use walk::horizon::Horizon;
-use walk::route::{Found, first_route};
+use walk::route::first_route;
 use walk::standing::Standing;
 use walk::tally::count_routes;
 
 pub fn show_standing(rt: &HostRuntime, job: &Job, fleet: &JobFleet) -> anyhow::Result<()> {
     let floor = job.floor();
-    for number in 0..job.sled_count().min(6) {
-        if let Some(sled) = job.sled(number) {
-            let start = word(may_stand(fleet, number as u8, &floor, sled.start));
-            let goal = word(may_stand(fleet, number as u8, &floor, sled.goal));
-            println!(rt; "standing {number} start {start} goal {goal}")?;
-        }
+    for (number, sled) in job.sleds().iter().enumerate() {
+        let start = word(may_stand(fleet, number as u8, &floor, sled.start));
+        let goal = word(may_stand(fleet, number as u8, &floor, sled.goal));
+        println!(rt; "standing {number} start {start} goal {goal}")?;
     }
     Ok(())
 }
@@ -32,11 +31,9 @@ pub fn show_routes(rt: &HostRuntime, job: &Job, fleet: &JobFleet) -> anyhow::Res
     let Some(horizon) = Horizon::new(job.horizon()) else {
         return Ok(());
     };
-    for number in 0..job.sled_count().min(6) {
-        if let Some(sled) = job.sled(number) {
-            let at = standing_places(fleet, number as u8, &floor);
-            show_route(rt, number, sled, &Standing { at }, horizon)?;
-        }
+    for (number, sled) in job.sleds().iter().enumerate() {
+        let at = standing_places(fleet, number as u8, &floor);
+        show_route(rt, number, sled, &Standing { at }, horizon)?;
     }
     Ok(())
 }
@@ -44,7 +41,7 @@ pub fn show_routes(rt: &HostRuntime, job: &Job, fleet: &JobFleet) -> anyhow::Res
 fn show_route(
     rt: &HostRuntime,
     number: usize,
-    sled: Sled,
+    sled: &Sled,
     standing: &Standing,
     horizon: Horizon,
 ) -> anyhow::Result<()> {
@@ -54,9 +51,9 @@ fn show_route(
         None => println!(rt; "alone {number} no route")?,
         Some(found) => {
             let count = routes_of(standing, start, goal, horizon);
-            let places = places(rt, &found, horizon)?;
             let cost = found.cost;
-            println!(rt; "alone {number} cost {cost} routes {count}{places}")?
+            let route = Route(&found.places[..=usize::from(horizon.steps)]);
+            println!(rt; "alone {number} cost {cost} routes {count}{route}")?
         }
     }
     Ok(())
@@ -66,22 +63,5 @@ fn show_route(
 fn routes_of(standing: &Standing, start: u8, goal: u8, horizon: Horizon) -> u16 {
     let mut row = [Count { value: 0 }; BOARD_PLACES];
     let mut spare = [Count { value: 0 }; BOARD_PLACES];
-    match count_routes(standing, start, goal, horizon, &mut row, &mut spare) {
-        Ok(count) => count,
-        Err(_) => 0,
-    }
-}
-
-// A blank, a column, a comma and a row for every instant.
-fn places(rt: &HostRuntime, found: &Found, horizon: Horizon) -> anyhow::Result<String> {
-    let mut text = String::new(rt.alloc());
-    for (instant, number) in found.places.iter().enumerate() {
-        if instant <= horizon.steps as usize {
-            let place = Place::from(*number);
-            let (column, row) = (place.column, place.row);
-            let entry = format!(in rt.alloc(); " {column},{row}")?;
-            text.push_str(entry.as_str())?;
-        }
-    }
-    Ok(text)
+    count_routes(standing, start, goal, horizon, &mut row, &mut spare).unwrap_or(0)
 }

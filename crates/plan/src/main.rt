@@ -15,32 +15,28 @@ use std::io::{Read, Write};
 
 mod alone;
 mod show;
+mod text;
 
 fn main(rt: HostRuntime) -> anyhow::Result<()> {
     let mut file = Vec::new(rt.alloc());
     rt.stdin().read_to_end(&mut file)?;
     let mut job = Job::new();
     match job.read(file.as_slice()) {
-        Ok(()) => {
-            if only_checks(&rt)? {
-                check(&rt, &job)
-            } else {
-                plan(&rt, &job)
-            }
-        }
+        Ok(()) if only_checks(&rt)? => check(&rt, &job),
+        Ok(()) => plan(&rt, &job),
         Err(fault) => refuse(&rt, fault),
     }
 }
 
 // Whether the argument --check is given.
 fn only_checks(rt: &HostRuntime) -> anyhow::Result<bool> {
-    let mut found = false;
+    // By hand: the words are handed out as owned strings, and such a list has no `any`.
     for word in env::args(rt)? {
         if word.as_str() == "--check" {
-            found = true;
+            return Ok(true);
         }
     }
-    Ok(found)
+    Ok(false)
 }
 
 // The joint plan: the job is opened, searched to its end, and told.

@@ -1,6 +1,6 @@
 -- What a job says of each of its sleds.
 use Rattle.std.proofs.Common.{◌≡◌, ℕ, ◌<◌, ◌≤◌, true, false, not, leb, List, length, get_or, take, Ok, Err, Result, sym, subst, arith}
-use Rattle.std.proofs.lemmas.List.{length-take, length-take-le, length-map}
+use Rattle.std.proofs.lemmas.List.{length-take-le, length-map}
 use Rattle.std.proofs.lemmas.Bool.Decides.{nat_tests}
 use Rattle.std.proofs.lemmas.Bool.{and_parts, not-true, leb-true}
 use Rattle.fault.specs.declared.cause.Fault.{Fault}
@@ -11,6 +11,7 @@ use Rattle.fleet.specs.OutlineFleets.{Outlines, all_rows, Drawn}
 use Rattle.job.specs.declared.job.Job.{Job}
 use Rattle.job.specs.declared.shape.Shape.TheVariants.{Rectangle}
 use Rattle.job.specs.declared.sled_value.SledValue.{SledValue}
+use Rattle.job.proofs.SledLists.{sleds_few}
 use Rattle.job.specs.Facts.{facts}
 use Rattle.job.specs.Jobs.{smallest_sled}
 use Rattle.job.specs.Shapes.{shape_ok, sled_ok, outgrown}
@@ -39,7 +40,7 @@ told_limited j n v below is =
     subst Limited (sym is) (limited j.floor.columns j.floor.rows _ (sound_at (facts j).sleds j.floor.columns j.floor.rows false n j.sound below))
 
 pub at_most_six : (j : Job) → length (facts j).sleds ≤ 6
-at_most_six j = let few = j.sleds.few in simp length-take (omega arith)
+at_most_six j = sleds_few j.sleds
 
 -- before the last sled no kind has six
 pub room : (j : Job) (n : ℕ) → n < length (facts j).sleds → (length (all_sides_of (take n (facts j).sleds)) < 6) × (length (all_rows_of (take n (facts j).sleds)) < 6)

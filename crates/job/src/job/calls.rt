@@ -1,19 +1,18 @@
 // Making a job, reading one from the bytes of a file, and asking it.
-ghost use Rattle.std.specs.Prelude.{◌≡◌, length};
-ghost use Rattle.job.specs.Facts.{facts, smallest, Reads, SledIs, EveryJobIsReadBack, OnlyItsOwnFileGivesAJob};
+ghost use Rattle.std.specs.Prelude.{◌≡◌, map, length};
+ghost use Rattle.job.specs.Facts.{facts, smallest, values_of, Reads, SledIs, EveryJobIsReadBack, OnlyItsOwnFileGivesAJob};
 ghost use Rattle.job.specs.Told.{decode};
 ghost use Rattle.job.specs.Reading.{shown};
 
-use crate::field::{read_horizon, read_limit};
+use crate::field::{Field, read_horizon, read_limit};
 use crate::floor_field::read_floor;
 use crate::job::Job;
 use crate::sled::Sled;
-use crate::sleds::Sleds;
+use crate::sleds::smallest_alone;
 use crate::sleds_part::read_sleds;
 use fault::cause::Fault;
 use grid::cell::Cell;
 use grid::floor::Floor;
-use grid::place::Place;
 
 // Where the fields of the node limit and of the floor begin, and where the floor's cells do.
 const LIMIT_AT: usize = 4;
@@ -32,7 +31,7 @@ impl Job {
                 horizon: 1,
                 limit: 1,
                 floor,
-                sleds: Sleds::one(),
+                sleds: smallest_alone(),
             },
             None => unreachable(),
         }
@@ -70,22 +69,21 @@ impl Job {
     pub fn sled_count(&self) -> usize
         ensures { result ≡ length (facts self.now).sleds }
     {
-        self.sleds.count()
+        self.sleds.len()
+    }
+
+    // The sleds in their order.
+    pub fn sleds(&self) -> &[Sled]
+        ensures { map values_of result.now ≡ (facts self.now).sleds }
+    {
+        self.sleds.as_slice()
     }
 
     // A sled by its number, from 0 on; none past the last.
     pub fn sled(&self, number: usize) -> Option<Sled>
         ensures { SledIs (facts self.now).sleds number result }
     {
-        let value = self.sleds.get(number)?;
-        let start = Place::new(value.start.column, value.start.row)?;
-        let goal = Place::new(value.goal.column, value.goal.row)?;
-        Some(Sled {
-            shape: value.shape,
-            skirt: value.skirt,
-            start,
-            goal,
-        })
+        self.sleds().get(number).copied()
     }
 }
 
@@ -98,14 +96,14 @@ pub fn format_is_exact()
 fn read_job(file: &[u8]) -> Result<Job, Fault>
     ensures { shown facts result ≡ decode file.now }
 {
-    let horizon = read_horizon(file, 0)?;
-    let limit = read_limit(&file[LIMIT_AT..], LIMIT_AT)? as u16;
-    let floor = read_floor(&file[FLOOR_AT..], FLOOR_AT)?;
+    let horizon = read_horizon(Field::of(file, 0))?;
+    let limit = read_limit(Field::of(file, LIMIT_AT))?;
+    let floor = read_floor(Field::of(file, FLOOR_AT))?;
     let start = CELLS_AT + floor.columns() as usize * floor.rows() as usize;
     let sleds = read_sleds(file, start, &floor)?;
     Ok(Job {
         horizon,
-        limit,
+        limit: u16::from(limit),
         floor,
         sleds,
     })

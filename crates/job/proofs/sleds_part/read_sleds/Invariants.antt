@@ -1,5 +1,5 @@
 use Rattle.std.proofs.Common.{◌≡◌, ◌-◌, ◌≤◌, false, [], length, drop}
-use Rattle.job.specs.Jobs.{sleds_told}
+use Rattle.job.specs.Jobs.{sleds_told, ends_drawn}
 use Rattle.job.specs.Told.{sleds_of}
 use Rattle.job.proofs.sleds_part.read_sleds.Given as goal
 
@@ -8,7 +8,7 @@ abbrev pub invariant-loop-sled : goal.invariant-loop-sled
 invariant-loop-sled l =
     (l.at ≤ length l.file)
     × (sleds_of l.floor.columns l.floor.rows l.start false [] (drop l.start l.file)
-    ≡ sleds_of l.floor.columns l.floor.rows l.at l.drawn (sleds_told l.sleds) (drop l.at l.file))
+    ≡ sleds_of l.floor.columns l.floor.rows l.at (ends_drawn (sleds_told l.sleds)) (sleds_told l.sleds) (drop l.at l.file))
 
 abbrev pub decreases-loop-sled : goal.decreases-loop-sled
 decreases-loop-sled l = length l.file - l.at

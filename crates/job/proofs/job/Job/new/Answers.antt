@@ -1,4 +1,4 @@
-use Rattle.std.proofs.Common.{false, length, ap, arith, lit≤, length-take}
+use Rattle.std.proofs.Common.{false, length, ap, arith, lit≤}
 use Rattle.job.specs.Shapes.{outgrown, row_outgrown}
 use Rattle.job.specs.Sound.{sound_sleds}
 use Rattle.job.proofs.job.Job.new.Goals as goal
@@ -6,12 +6,11 @@ use Rattle.job.proofs.job.Job.new.Goals as goal
 pub invariant_of-result : goal.invariant_of-result
 unfolding outgrown row_outgrown
 invariant_of-result c =
-    let sleds = c.one.result in
     record {
       lasting = lit≤ tt;
       ending = lit≤ tt;
       some_nodes = lit≤ tt;
       few_nodes = lit≤ tt;
-      some_sled = omega (arith, length-take sleds.count sleds.list, ap length c.one.ensures);
-      sound = λ i. sound_sleds (c.in-Some.ensures.0 i) (c.in-Some.ensures.1 i) false (c.one.ensures i);
+      some_sled = omega (arith, ap length c.smallest_alone.ensures);
+      sound = λ i. sound_sleds (c.in-Some.ensures.0 i) (c.in-Some.ensures.1 i) false (c.smallest_alone.ensures i);
     }
