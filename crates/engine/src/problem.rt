@@ -4,6 +4,22 @@ ghost use Rattle.engine.specs.Model.{Model, Keeps};
 
 use super::node::Sets;
 use walk::horizon::Horizon;
+use walk::weight::Step;
+
+// A sled at a place.
+#[derive(Clone, Copy, PartialEq, Debug)]
+pub struct At {
+    pub sled: usize,
+    pub place: u8,
+}
+
+// A sled that goes from one place to another in a step.
+#[derive(Clone, Copy, PartialEq, Debug)]
+pub struct Going {
+    pub sled: usize,
+    pub from: u8,
+    pub to: u8,
+}
 
 // Sleds, places and instants are told by their numbers. Whatever the numbers, there is an answer.
 pub trait Problem {
@@ -21,23 +37,23 @@ pub trait Problem {
     fn goal(&self, sled: usize) -> u8
         ensures { result ≡ (model self.now).setting.goal sled };
 
-    // Whether the sled may go from one place to another that is a step away, in the step that leaves an instant. This is asked in the
-    // innermost loop, and only of places a step apart.
-    fn allows(&self, sled: usize, instant: u8, from: u8, to: u8) -> bool
-        ensures { result ≡ (model self.now).allowed sled instant from to };
+    // Whether the sled may take a step to a place that is a step away. This is asked in the innermost loop, and only of places a step
+    // apart.
+    fn allows(&self, sled: usize, step: Step) -> bool
+        ensures { result ≡ (model self.now).allowed sled step.instant step.from step.to };
 
-    // Whether sled i at u and sled j at v meet.
-    fn meets(&self, i: usize, j: usize, u: u8, v: u8) -> bool
-        ensures { result ≡ (model self.now).setting.meets i j u v };
+    // Whether two sleds meet where they are.
+    fn meets(&self, a: At, b: At) -> bool
+        ensures { result ≡ (model self.now).setting.meets a.sled b.sled a.place b.place };
 
-    // Whether sled i from u to u2 and sled j from v to v2 collide in one step.
-    fn collides(&self, i: usize, j: usize, u: u8, u2: u8, v: u8, v2: u8) -> bool
-        ensures { result ≡ (model self.now).setting.collides i j u u2 v v2 };
+    // Whether two sleds collide in one step.
+    fn collides(&self, a: Going, b: Going) -> bool
+        ensures { result ≡ (model self.now).setting.collides a.sled b.sled a.from a.to b.from b.to };
 
-    // Where sled i at u and sled j at v meet: the places that each of them is to be kept from.
-    fn splits(&self, i: usize, j: usize, u: u8, v: u8) -> Sets
-        ensures lower { (w : ℕ) → w < 256 → slice_index_or result.lower w false ≡ (model self.now).first i j u v w }
-        ensures higher { (w : ℕ) → w < 256 → slice_index_or result.higher w false ≡ (model self.now).second i j u v w };
+    // Where two sleds meet: the places that each of them is to be kept from.
+    fn splits(&self, a: At, b: At) -> Sets
+        ensures lower { (w : ℕ) → w < 256 → slice_index_or result.lower w false ≡ (model self.now).first a.sled b.sled a.place b.place w }
+        ensures higher { (w : ℕ) → w < 256 → slice_index_or result.higher w false ≡ (model self.now).second a.sled b.sled a.place b.place w };
 
     ghost keeps: { (p : Self) → Keeps (model p) };
 }
