@@ -20,11 +20,12 @@ impl<F: Fleet, R: SplitRule> Search<F, R> {
         let Some(outcome) = self.outcome() else {
             return Err(Cause::WrongState.at(0));
         };
+        let routes = self.plan();
+        let sleds = self.problem.sleds();
         let report = Report {
             outcome,
             turns: self.turns as usize,
-            routes: self.plan(),
-            sleds: self.problem.sleds() as u8,
+            routes: &routes[..sleds],
             last: self.problem.horizon().steps,
         };
         write_report(&report, out)
