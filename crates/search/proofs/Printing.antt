@@ -1,5 +1,5 @@
 -- The lines of a report are those of the tree.
-use Rattle.std.proofs.Common.{◌≡◌, ℕ, zero, suc, ◌<◌, List, [], ◌++◌, get_or, take, Some, Option, Result, sym, refl, ap, ◌∙◌, subst, ap₂, arith}
+use Rattle.std.proofs.Common.{◌≡◌, ℕ, zero, suc, ◌<◌, List, [], ◌++◌, length, get_or, take, Some, Option, Result, sym, refl, ap, ◌∙◌, subst, ap₂, arith}
 use Rattle.std.proofs.lemmas.List.{append-nil, take-take}
 use Rattle.fault.specs.declared.cause.Fault.{Fault}
 use Rattle.fault.specs.Lines.{Writes}
@@ -23,29 +23,29 @@ unfolding plan_lines
 plan_alike xs ys last zero h = refl
 plan_alike xs ys last (suc n) h = ap₂ (λ (a b : List ℕ). a ++ b) (plan_alike xs ys last n (λ s l. h s (omega arith))) (ap (route_line n) (h n (omega arith)))
 
-report_is : (r : Report) (o : Outcome) → r.outcome ≡ o → report_lines r ≡ outcome_line o r.turns ++ lines_after o (plan_lines r.routes r.last r.sleds)
+report_is : (r : Report) (o : Outcome) → r.outcome ≡ o → report_lines r ≡ outcome_line o r.turns ++ lines_after o (plan_lines r.routes.now r.last (length r.routes.now))
 unfolding report_lines
-report_is r o e = ap (λ (x : Outcome). outcome_line x r.turns ++ lines_after x (plan_lines r.routes r.last r.sleds)) e
+report_is r o e = ap (λ (x : Outcome). outcome_line x r.turns ++ lines_after x (plan_lines r.routes.now r.last (length r.routes.now))) e
 
 module _ (before after : List ℕ) (r : Result ℕ Fault) (P : search.Search) (t : Tree) where
   abbrev S : Setting
   S = P.setting
 
   -- the report's numbers and routes are the tree's
-  module _ (x : Report) (same_sleds : x.sleds ≡ S.sleds) (same_last : x.last ≡ S.horizon)
-      (same_routes : (k : ℕ) → t.verdict ≡ solved k → (s : ℕ) → s < S.sleds → take (suc S.horizon) (get_or x.routes s []) ≡ route (routes_at t.nodes k) s)
+  module _ (x : Report) (same_sleds : length x.routes.now ≡ S.sleds) (same_last : x.last ≡ S.horizon)
+      (same_routes : (k : ℕ) → t.verdict ≡ solved k → (s : ℕ) → s < S.sleds → take (suc S.horizon) (get_or x.routes.now s []) ≡ route (routes_at t.nodes k) s)
       (w : Writes (report_lines x) before after r) where
-    writes : (o : Outcome) → x.outcome ≡ o → (lines : List ℕ) → lines_after o (plan_lines x.routes x.last x.sleds) ≡ lines → Writes (outcome_line o x.turns ++ lines) before after r
+    writes : (o : Outcome) → x.outcome ≡ o → (lines : List ℕ) → lines_after o (plan_lines x.routes.now x.last (length x.routes.now)) ≡ lines → Writes (outcome_line o x.turns ++ lines) before after r
     writes o e lines q = subst (λ (bytes : List ℕ). Writes bytes before after r) (report_is x o e ∙ ap (λ (ls : List ℕ). outcome_line o x.turns ++ ls) q) w
 
-    writes_line : (o : Outcome) → x.outcome ≡ o → lines_after o (plan_lines x.routes x.last x.sleds) ≡ [] → Writes (outcome_line o x.turns) before after r
+    writes_line : (o : Outcome) → x.outcome ≡ o → lines_after o (plan_lines x.routes.now x.last (length x.routes.now)) ≡ [] → Writes (outcome_line o x.turns) before after r
     writes_line o e q = subst (λ (bytes : List ℕ). Writes bytes before after r) (append-nil (outcome_line o x.turns)) (writes o e [] q)
 
-    plan_is : (k : ℕ) → t.verdict ≡ solved k → plan_lines x.routes x.last x.sleds ≡ plan_lines (routes_at t.nodes k) S.horizon S.sleds
+    plan_is : (k : ℕ) → t.verdict ≡ solved k → plan_lines x.routes.now x.last (length x.routes.now) ≡ plan_lines (routes_at t.nodes k) S.horizon S.sleds
     plan_is k e =
-        ap₂ (plan_lines x.routes) same_last same_sleds ∙
-        plan_alike x.routes (routes_at t.nodes k) S.horizon S.sleds
-        (λ s l. sym (take-take (suc S.horizon) (suc S.horizon) (get_or x.routes s []) (omega arith)) ∙ ap (take (suc S.horizon)) (same_routes k e s l))
+        ap₂ (plan_lines x.routes.now) same_last same_sleds ∙
+        plan_alike x.routes.now (routes_at t.nodes k) S.horizon S.sleds
+        (λ s l. sym (take-take (suc S.horizon) (suc S.horizon) (get_or x.routes.now s []) (omega arith)) ∙ ap (take (suc S.horizon)) (same_routes k e s l))
 
     pub printed : (v : Verdict) → t.verdict ≡ v → Bounded P t v → Some x.outcome ≡ outcome_of (bound S t) v → PrintsTree before after r S t x.turns v
     printed working e b o = let z : ◌≡◌ {A = ℕ} 0 1 = cc in absurd (omega arith)

@@ -30,11 +30,12 @@ impl<F: Fleet, R: SplitRule> Search<F, R> {
             instance: &opened.instance,
             rule: &self.rule,
         };
+        let routes = plan(&self.engine, &problem);
+        let sleds = problem.sleds();
         let report = Report {
             outcome,
             turns: opened.turns as usize,
-            routes: plan(&self.engine, &problem),
-            sleds: problem.sleds() as u8,
+            routes: &routes[..sleds],
             last: problem.horizon().steps,
         };
         write_report(&report, out)

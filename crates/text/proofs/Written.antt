@@ -79,4 +79,4 @@ pub whole-text : {buffer bytes : List ℕ} {now after : Text} {end : Option ℕ}
     → TextOf buffer bytes after.out.now end
 whole-text {buffer} {bytes} {now} {after} {end} kept front all ends =
     subst (λ at. TextOf buffer bytes after.out.now at) (sym ends)
-        (all.behind buffer [] (subst (λ at. TextOf buffer [] now.out.now at) (sym front) (omega arith, refl, kept)))
+    (all.behind buffer [] (subst (λ at. TextOf buffer [] now.out.now at) (sym front) (omega arith, refl, kept)))

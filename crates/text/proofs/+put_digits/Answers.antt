@@ -1,4 +1,4 @@
-use Rattle.std.proofs.Common.{◌+◌, ◌/◌, ◌%◌, ◌^◌, ◌<◌, ◌≤◌, [], ◌∷◌, length, decimal, sym, ap, ◌∙◌, arith, rules}
+use Rattle.std.proofs.Common.{◌+◌, ◌/◌, ◌%◌, ◌<◌, ◌≤◌, [], ◌∷◌, length, decimal, sym, ap, ◌∙◌, arith, rules}
 use Rattle.std.proofs.lemmas.Fmt.{decimal_digit, decimal_step}
 use Rattle.text.specs.Texts.{written}
 use Rattle.text.proofs.Written.{set_written, written_more, last_digit, length_written}
@@ -17,22 +17,15 @@ returns-then-n-lt10 t c =
     }
 
 pub put_digits-last-requires : goal.put_digits-last-requires
-put_digits-last-requires t c =
-    let n = c.args.n in
-    let fits : n < 2 ^ 64 = search rules in
-    (search rules, omega (arith, last_digit n c.if-n-lt10.false fits, c.requires))
+put_digits-last-requires t c = (search rules, omega (arith, last_digit c.args.n c.if-n-lt10.false (search rules), c.requires))
 
 pub bounds-out-last : goal.bounds-out-last
-bounds-out-last t c =
-    let n = c.args.n in
-    let fits : n < 2 ^ 64 = search rules in
-    omega (arith, last_digit n c.if-n-lt10.false fits, c.requires, c.put_digits-last.ensures.end)
+bounds-out-last t c = omega (arith, last_digit c.args.n c.if-n-lt10.false (search rules), c.requires, c.put_digits-last.ensures.end)
 
 pub overflow_add-result-2 : goal.overflow_add-result-2
 overflow_add-result-2 t c =
-    let n = c.args.n in
-    let fits : n < 2 ^ 64 = search rules in
-    let inside : c.put_digits-last.result < length c.args.out.now = omega (arith, last_digit n c.if-n-lt10.false fits, c.requires, c.put_digits-last.ensures.end) in
+    let inside : c.put_digits-last.result < length c.args.out.now =
+    omega (arith, last_digit c.args.n c.if-n-lt10.false (search rules), c.requires, c.put_digits-last.ensures.end) in
     search rules
 
 pub returns : goal.returns
@@ -40,14 +33,13 @@ returns t c =
     let n = c.args.n in
     let at = c.args.at in
     let out = c.args.out.now in
-    let fits : n < 2 ^ 64 = search rules in
-    let more = last_digit n c.if-n-lt10.false fits in
-    let whole = decimal_step n c.if-n-lt10.false fits in
+    let more = last_digit n c.if-n-lt10.false (search rules) in
+    let whole = decimal_step n c.if-n-lt10.false (search rules) in
     let room : at ≤ length out = omega (arith, c.requires) in
     let last = c.put_digits-last.ensures.end in
     let front = c.put_digits-last.ensures.bytes in
-    let inside : c.put_digits-last.result < length c.put_digits-last.new.out =
-    omega (arith, more, c.requires, last, ap length front, length_written out at (decimal (n / 10)) (omega (arith, more, c.requires))) in
+    let kept = length_written out at (decimal (n / 10)) (omega (arith, more, c.requires)) in
+    let inside : c.put_digits-last.result < length c.put_digits-last.new.out = omega (arith, more, c.requires, last, ap length front, kept) in
     record {
       end = omega (arith, more, last);
       bytes =
