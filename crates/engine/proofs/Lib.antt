@@ -1,4 +1,3 @@
-pub mod Boards
 pub mod Below
 pub mod Plans
 pub mod Scanning
