@@ -1,4 +1,3 @@
-pub mod Boards
 pub mod Below
 pub mod Mapped
 pub mod Plans
