@@ -4,7 +4,7 @@ use Rattle.std.proofs.lemmas.Bool.{cases_eq, eq-eqb, ne_eqb, and_parts, or_cases
 use Rattle.std.proofs.lemmas.List.{get_or-set_same, get_or-set_other}
 use Rattle.few.specs.Told.{told}
 use Rattle.tree.specs.Constraints as constraints
-use Rattle.engine.specs.declared.node.Move.{Move}
+use Rattle.walk.specs.declared.weight.Step.{Step}
 use Rattle.engine.specs.declared.forbidden.Forbidden.{Forbidden}
 use Rattle.engine.specs.Forbids.{forbids_place, forbids_move, marked, is_move, listed, moves_of, Collected}
 use Rattle.engine.proofs.Marks.{listed_append, or_assoc}
@@ -32,7 +32,7 @@ module _ (b c : Forbidden) (rest all : List constraints.Constraint) where
   }
     where
       moves_same : (s p q : ℕ) → moves_of c s p q ≡ moves_of b s p q
-      moves_same s p q = ap (λ (ms : List Move). listed ms s p q) f
+      moves_same s p q = ap (λ (ms : List Step). listed ms s p q) f
 
   pub moved : (t u v : ℕ) → c.places ≡ b.places →
       ((s p : ℕ) → s < 64 → p < 256 → marked c.leaving s p ≡ (marked b.leaving s p || (eqb t s && eqb u p))) →
@@ -49,9 +49,9 @@ module _ (b c : Forbidden) (rest all : List constraints.Constraint) where
         (or_cases (moves_of b s p q) (is_move step s p q) (sym (moves_more s p q) ∙ y));
   }
     where
-      step : Move
+      step : Step
       step = record { instant = t; from = u; to = v }
 
       moves_more : (s p q : ℕ) → moves_of c s p q ≡ (moves_of b s p q || is_move step s p q)
       moves_more s p q =
-          ap (λ (xs : List Move). listed xs s p q) f ∙ listed_append (told b.moves) step s p q
+          ap (λ (xs : List Step). listed xs s p q) f ∙ listed_append (told b.moves) step s p q

@@ -1,5 +1,5 @@
-pub mod Boards
 pub mod Below
+pub mod Mapped
 pub mod Plans
 pub mod Scanning
 pub mod Cheapest

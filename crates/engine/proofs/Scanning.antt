@@ -1,13 +1,16 @@
 -- The scan by pairs is the theory's.
-use Rattle.std.proofs.Common.{◌≡◌, ℕ, zero, suc, ◌+◌, ◌<◌, Bool, true, false, cond, ◌&&◌, ltb, List, Some, None, Option, refl, ap, ◌∙◌, arith}
-use Rattle.std.specs.Option.{option_map}
+use Rattle.std.proofs.Common.{◌≡◌, ℕ, zero, suc, ◌+◌, ◌<◌, Bool, true, false, cond, ◌&&◌, ltb, List, Some, None, is_some, Option, sym, refl, ap, ◌∙◌, arith}
+use Rattle.std.specs.Option.{MatchOption, option_map}
+use Rattle.std.proofs.lemmas.Bool.{false≢true}
 use Rattle.tree.specs.Lists.{or_else, first_below}
 use Rattle.tree.specs.Setting.{Setting}
 use Rattle.tree.specs.Plans.{Plan, meet_at, collide_in}
 use Rattle.tree.specs.Conflicts.{Conflict, meeting, collision, scan, first_conflict}
-use Rattle.engine.specs.Table.{plan_of, at_of}
+use Rattle.engine.specs.Table.{plan_of, at_of, conflict_of}
 use Rattle.engine.specs.Scans.{pair_of, at_pair, at_sled, at_time, scanned}
 use Rattle.engine.specs.declared.scan.Pair.{Pair}
+use Rattle.engine.specs.declared.conflict.Conflict as own
+use Rattle.engine.specs.declared.conflict.Conflict.TheVariants.{Meeting, Collision}
 use Rattle.engine.proofs.Plans.{place_of}
 
 mapped_else : {A B : Type 0} (g : A → B) (o p : Option A) → option_map g (or_else o p) ≡ or_else (option_map g o) (option_map g p)
@@ -66,11 +69,22 @@ module _ (S : Setting) (rs : List (List ℕ)) where
       ap (λ q. or_else (option_map (made S.sleds meeting (meet_at S plan) (suc S.horizon)) q) collisions) (e ∙ ap (scanned S.sleds (meet_at S plan)) all)
       ∙ ap (λ q. or_else q collisions) (scan_is S.sleds meeting (meet_at S plan) (suc S.horizon))
 
-  pub meeting_first : (p : Pair) → Some p ≡ scanned S.sleds (meet_at S plan) (S.horizon + 1) → Some (meeting p.instant p.first p.second) ≡ first_conflict S plan
-  meeting_first p e = after_meetings (Some p) e
-
-  pub collision_first : (o : Option Pair) → None ≡ scanned S.sleds (meet_at S plan) (S.horizon + 1) → o ≡ scanned S.sleds (collide_in S plan) S.horizon →
+  collision_first : (o : Option Pair) → None ≡ scanned S.sleds (meet_at S plan) (S.horizon + 1) → o ≡ scanned S.sleds (collide_in S plan) S.horizon →
       option_map (λ (q : Pair). collision q.instant q.first q.second) o ≡ first_conflict S plan
   collision_first o none e =
       ap (option_map (λ (q : Pair). collision q.instant q.first q.second)) e
       ∙ scan_is S.sleds collision (collide_in S plan) S.horizon ∙ after_meetings None none
+
+  conflict_same : (o : Option Pair) → option_map conflict_of (option_map Collision o) ≡ option_map (λ (q : Pair). collision q.instant q.first q.second) o
+  conflict_same None = refl
+  conflict_same (Some p) = refl
+
+  -- r is the meeting that is found first, and else what `after` says of the collision that is
+  pub conflict_first : {after : Type 0} (o : Option Pair) (w r : Option own.Conflict) → w ≡ option_map Meeting o → o ≡ scanned S.sleds (meet_at S plan) (S.horizon + 1) → MatchOption w after (λ x. r ≡ Some x) →
+      (after → (q : Option Pair) × (q ≡ scanned S.sleds (collide_in S plan) S.horizon) × (r ≡ option_map Collision q)) → option_map conflict_of r ≡ first_conflict S plan
+  conflict_first None None r same none e told =
+      let h = told e in
+      ap (option_map conflict_of) h.2 ∙ conflict_same h.0 ∙ collision_first h.0 none h.1
+  conflict_first None (Some x) r same none e told = absurd (false≢true (sym (ap is_some same)))
+  conflict_first (Some p) None r same some e told = absurd (false≢true (ap is_some same))
+  conflict_first (Some p) (Some x) r same some e told = ap (option_map conflict_of) (e ∙ same) ∙ after_meetings (Some p) some

@@ -42,12 +42,6 @@ module _ (m : Model) (table : List Node) (xs : List tree.Node) (t : Tracks m tab
   pub child_trail : (b : SledConstraint) → record_at.constraint ≡ Some b → trail_at k ≡ sled_constraint_of b ∷ trail_at record_at.parent
   child_trail b e = (t.each k l).trail ∙ ap (λ (o : Option SledConstraint). own o (trail_at record_at.parent)) e
 
-  pub child_lower : (b : SledConstraint) → record_at.constraint ≡ Some b → record_at.parent < k
-  child_lower b e = (t.each k l).lower (ap is_some e)
-
-  pub child_lies : (b : SledConstraint) → record_at.constraint ≡ Some b → LiesIn m.setting (Some b)
-  child_lies b e = subst (LiesIn m.setting) e (t.each k l).lies_in
-
 -- every constraint of a trail lies within the horizon
 abbrev TimelyConstraint : Setting → constraints.SledConstraint → Type 0
 TimelyConstraint S b = InTime S b.constraint

@@ -7,7 +7,7 @@ use Rattle.tree.specs.Constraints as constraints
 use Rattle.engine.specs.Model.{Model}
 use Rattle.engine.specs.declared.node.Constraint.{Constraint}
 use Rattle.engine.specs.declared.node.Constraint.TheVariants.{Places, Move}
-use Rattle.engine.specs.declared.node.Move as step
+use Rattle.walk.specs.declared.weight.Step.{Step}
 use Rattle.engine.specs.declared.forbidden.Forbidden.{Forbidden}
 
 -- some constraint is on place p at instant t
@@ -27,11 +27,11 @@ abbrev pub marked : List (List Bool) → (t p : ℕ) → Bool
 marked places t p = slice_index_or (slice_index_or places t []) p false
 
 -- whether it is the move from p to q in the step from instant t
-abbrev pub is_move : step.Move → (t p q : ℕ) → Bool
+abbrev pub is_move : Step → (t p q : ℕ) → Bool
 is_move m t p q = (m.instant == t && m.from == p) && m.to == q
 
 -- whether that move is in the list
-abbrev pub listed : List step.Move → (t p q : ℕ) → Bool
+abbrev pub listed : List Step → (t p q : ℕ) → Bool
 listed ms t p q = list_any (λ m. is_move m t p q) ms
 
 -- the moves of the table

@@ -59,6 +59,7 @@ impl Engine {
         ensures { (t : tree.Tree) → IsAt (P.Problem.model problem.now) self.now t → option_map (take (suc (P.Problem.model problem.now).setting.horizon)) result ≡ route_told (P.Problem.model problem.now).setting t.nodes t.verdict sled }
     {
         let node = self.solved()?;
+        // By hand: of a closure for `then` that gives an array, the proof learns nothing.
         if sled < problem.sleds() {
             Some(node.routes[sled])
         } else {

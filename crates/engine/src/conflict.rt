@@ -1,5 +1,5 @@
 // The first conflict of a node's routes.
-ghost use Rattle.std.specs.Prelude.{◌≡◌, ◌+◌};
+ghost use Rattle.std.specs.Prelude.{◌≡◌, ◌+◌, ◌<◌};
 ghost use Rattle.std.specs.Option.{option_map};
 ghost use Rattle.tree.specs.Plans.{meet_at, collide_in};
 ghost use Rattle.tree.specs.Conflicts.{first_conflict};
@@ -7,6 +7,7 @@ ghost use Rattle.engine.specs.Scans.{scanned};
 ghost use Rattle.engine.specs.Table.{plan_of, conflict_of};
 
 use super::node::{MAX_SLEDS, Route};
+use super::placed::{at, going};
 use super::problem::Problem;
 use super::scan::{Pair, first_pair};
 
@@ -22,10 +23,13 @@ fn first_meeting<P: Problem>(problem: &P, routes: &[Route; MAX_SLEDS]) -> Option
     ensures { result ≡ scanned (P.Problem.model problem.now).setting.sleds (meet_at (P.Problem.model problem.now).setting (plan_of (P.Problem.model problem.now).setting routes.now)) ((P.Problem.model problem.now).setting.horizon + 1) }
 {
     let instants = problem.horizon().steps + 1;
-    first_pair(problem.sleds(), instants, |instant, first, second| {
-        let now = instant as usize;
-        problem.meets(first, second, routes[first][now], routes[second][now])
-    })
+    first_pair(
+        problem.sleds(),
+        instants,
+        |instant, first, second|
+            requires { (instant < 64) × ((first < 6) × (second < 6)) }
+        { problem.meets(at(routes, first, instant), at(routes, second, instant)) },
+    )
 }
 
 // The first two sleds that collide in a step before the horizon.
@@ -33,15 +37,18 @@ fn first_collision<P: Problem>(problem: &P, routes: &[Route; MAX_SLEDS]) -> Opti
     ensures { result ≡ scanned (P.Problem.model problem.now).setting.sleds (collide_in (P.Problem.model problem.now).setting (plan_of (P.Problem.model problem.now).setting routes.now)) (P.Problem.model problem.now).setting.horizon }
 {
     let steps = problem.horizon().steps;
-    first_pair(problem.sleds(), steps, |instant, first, second| {
-        let before = instant as usize;
-        let after = before + 1;
-        let u = routes[first][before];
-        let u2 = routes[first][after];
-        let v = routes[second][before];
-        let v2 = routes[second][after];
-        problem.collides(first, second, u, u2, v, v2)
-    })
+    first_pair(
+        problem.sleds(),
+        steps,
+        |instant, first, second|
+            requires { (instant < 63) × ((first < 6) × (second < 6)) }
+        {
+            problem.collides(
+                going(routes, first, instant),
+                going(routes, second, instant),
+            )
+        },
+    )
 }
 
 // The first conflict: instant by instant the pairs that meet, then step by step those that collide.
@@ -51,9 +58,7 @@ pub(crate) fn first_conflict<P: Problem>(
 ) -> Option<Conflict>
     ensures { option_map conflict_of result ≡ first_conflict (P.Problem.model problem.now).setting (plan_of (P.Problem.model problem.now).setting routes.now) }
 {
-    if let Some(pair) = first_meeting(problem, routes) {
-        return Some(Conflict::Meeting(pair));
-    }
-    let pair = first_collision(problem, routes)?;
-    Some(Conflict::Collision(pair))
+    first_meeting(problem, routes)
+        .map(Conflict::Meeting)
+        .or_else(|| first_collision(problem, routes).map(Conflict::Collision))
 }

@@ -1,12 +1,13 @@
 // What a trail forbids one sled, collected into a table.
-use super::node::{Move, PlaceSet};
+use super::node::PlaceSet;
 use few::Few;
 use walk::horizon::MAX_INSTANTS;
+use walk::weight::Step;
 
 // The places forbidden at each instant; the places from which some move is forbidden; and these moves.
 #[derive(Clone, Copy)]
 pub(crate) struct Forbidden {
     pub(crate) places: [PlaceSet; MAX_INSTANTS],
     pub(crate) leaving: [PlaceSet; MAX_INSTANTS],
-    pub(crate) moves: Few<Move, 512>,
+    pub(crate) moves: Few<Step, 512>,
 }

@@ -6,11 +6,12 @@ ghost use Rattle.engine.specs.Table.{constraint_of};
 ghost use Rattle.engine.specs.Forbids.{marked, listed, is_forbidden, Collected, FitsTable};
 
 use super::forbidden::Forbidden;
-use super::node::{Constraint, Move, PlaceSet};
+use super::node::{Constraint, PlaceSet};
 use few::Few;
 use grid::place::BOARD_PLACES;
 use std::array;
 use walk::horizon::MAX_INSTANTS;
+use walk::weight::Step;
 
 // The places that are in one set or in the other.
 fn union(one: &PlaceSet, other: &PlaceSet) -> PlaceSet
@@ -30,7 +31,7 @@ impl Forbidden {
         ensures empty { (bs : List constraints.Constraint) → Collected result bs bs }
         ensures free { length (told result.moves) ≡ 0 }
     {
-        let nowhere = Move {
+        let nowhere = Step {
             instant: 0,
             from: 0,
             to: 0,
@@ -43,14 +44,14 @@ impl Forbidden {
     }
 
     // Whether a move is in the list.
-    fn has_move(&self, step: Move) -> bool
+    fn has_move(&self, step: Step) -> bool
         ensures { result ≡ listed (told self.now.moves) step.instant step.from step.to }
     {
         self.moves.as_slice().contains(&step)
     }
 
     // Whether a step is forbidden. The list of moves is looked through only where some move from that place is in it.
-    pub(crate) fn forbids(&self, step: Move) -> bool
+    pub(crate) fn forbids(&self, step: Step) -> bool
         requires { step.instant < 63 }
         ensures { result ≡ is_forbidden self.now step.instant step.from step.to }
     {
@@ -61,7 +62,7 @@ impl Forbidden {
     }
 
     // Marks the place that a forbidden move leaves.
-    fn mark_leaving(&mut self, step: Move)
+    fn mark_leaving(&mut self, step: Step)
         requires { step.instant < 64 }
         ensures marks { (t p : ℕ) → t < 64 → p < 256 → marked self.new.leaving t p ≡ (marked self.old.leaving t p || (step.instant == t && step.from == p)) }
         ensures same { (self.new.places ≡ self.old.places) × (self.new.moves ≡ self.old.moves) }

@@ -10,6 +10,7 @@ mod forbidden;
 mod forbidding;
 mod grow;
 pub mod node;
+mod placed;
 mod plan;
 pub mod problem;
 mod replay;

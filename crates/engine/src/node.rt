@@ -1,6 +1,7 @@
 // The nodes of the tree as records.
 use grid::place::BOARD_PLACES;
 use walk::horizon::MAX_INSTANTS;
+use walk::weight::Step;
 
 pub const MAX_SLEDS: usize = 6;
 
@@ -20,19 +21,11 @@ pub struct Sets {
     pub higher: PlaceSet,
 }
 
-// One move in the step that leaves an instant.
-#[derive(Clone, Copy, PartialEq, Debug)]
-pub(crate) struct Move {
-    pub(crate) instant: u8,
-    pub(crate) from: u8,
-    pub(crate) to: u8,
-}
-
-// What a node forbids one sled: the places of a set at an instant, or one move.
+// What a node forbids one sled: the places of a set at an instant, or one step.
 #[derive(Clone, Copy)]
 pub(crate) enum Constraint {
     Places(u8, PlaceSet),
-    Move(Move),
+    Move(Step),
 }
 
 #[derive(Clone, Copy)]

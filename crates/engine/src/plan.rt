@@ -7,11 +7,12 @@ ghost use Rattle.tree.specs.Choice.{first_choice};
 ghost use Rattle.engine.specs.Forbids.{permitted, Collected, InTime};
 
 use super::forbidden::Forbidden;
-use super::node::{Move, Route};
+use super::node::Route;
 use super::problem::Problem;
+use walk::errand::Errand;
 use walk::horizon::MAX_INSTANTS;
 use walk::route::first_route;
-use walk::weight::Steps;
+use walk::weight::{Step, Steps};
 
 // The steps of a sled that the problem allows and the table does not forbid.
 #[derive(Drop)]
@@ -24,10 +25,10 @@ struct SledSteps<'a, P> {
 impl<'a, P: Problem> Steps<bool> for SledSteps<'a, P> {
     ghost step = { λ x t p q. permitted (P.Problem.model x.problem.now) x.forbidden.now x.sled t p q };
 
-    fn weight(&self, instant: u8, from: u8, to: u8) -> bool {
-        (instant as usize) < MAX_INSTANTS - 1
-            && self.problem.allows(self.sled, instant, from, to)
-            && !self.forbidden.forbids(Move { instant, from, to })
+    fn weight(&self, taken: Step) -> bool {
+        (taken.instant as usize) < MAX_INSTANTS - 1
+            && self.problem.allows(self.sled, taken)
+            && !self.forbidden.forbids(taken)
     }
 }
 
@@ -45,8 +46,14 @@ pub(crate) fn plan_sled<'a, P: Problem>(
         forbidden,
         sled,
     };
-    let start = problem.start(sled);
-    let goal = problem.goal(sled);
-    let found = first_route(&steps, start, goal, problem.horizon())?;
-    Some(found.places)
+    let errand = Errand {
+        start: problem.start(sled),
+        goal: problem.goal(sled),
+        horizon: problem.horizon(),
+    };
+    first_route(&steps, errand).map(
+        |found|
+            ensures { result ≡ found.places }
+        { found.places },
+    )
 }

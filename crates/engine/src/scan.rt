@@ -23,17 +23,17 @@ fn first_with<F: Fn(u8, usize, usize) -> bool>(
         → ((second : ℕ) (b : Bool) → first < second → second < sleds → F.post passes.now instant first second b → b ≡ test instant first second)
         → result ≡ at_sled sleds test instant first }
 {
-    // By hand: `find` asks for a test that may be asked about all numbers.
-    for second in first + 1..sleds {
-        if passes(instant, first, second) {
-            return Some(Pair {
+    (first + 1..sleds).find_map(
+        |second|
+            requires { F.pre passes.now instant first second }
+        {
+            passes(instant, first, second).then_some(Pair {
                 instant,
                 first,
                 second,
-            });
-        }
-    }
-    None
+            })
+        },
+    )
 }
 
 // The first pair that passes at an instant.

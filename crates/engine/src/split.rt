@@ -6,23 +6,11 @@ ghost use Rattle.engine.specs.Model.{search_of};
 ghost use Rattle.engine.specs.Table.{plan_of, sled_constraint_of, conflict_of, LiesIn};
 
 use super::conflict::Conflict;
-use super::node::{Constraint, MAX_SLEDS, Move, Route, SledConstraint};
+use super::node::{Constraint, MAX_SLEDS, Route, SledConstraint};
+use super::placed::{at, step};
 use super::problem::Problem;
 
-// The move of a route in the step that leaves an instant.
-fn move_of(route: &Route, instant: u8) -> Move
-    requires { instant < 63 }
-    ensures { result ≡ record { instant = instant; from = slice_index route.now instant; to = slice_index route.now (instant + 1) } }
-{
-    let before = instant as usize;
-    Move {
-        instant,
-        from: route[before],
-        to: route[before + 1],
-    }
-}
-
-// The constraints on the lower and on the higher sled: at an instant the two sets of the rule, in a step the move of each sled.
+// The constraints on the lower and on the higher sled: at an instant the two sets of the rule, in a step that of each sled.
 pub(crate) fn split<P: Problem>(
     problem: &P,
     routes: &[Route; MAX_SLEDS],
@@ -35,9 +23,9 @@ pub(crate) fn split<P: Problem>(
 {
     match conflict {
         Conflict::Meeting(pair) => {
-            let u = routes[pair.first][pair.instant as usize];
-            let v = routes[pair.second][pair.instant as usize];
-            let sets = problem.splits(pair.first, pair.second, u, v);
+            let lower = at(routes, pair.first, pair.instant);
+            let higher = at(routes, pair.second, pair.instant);
+            let sets = problem.splits(lower, higher);
             (
                 SledConstraint {
                     sled: pair.first,
@@ -50,8 +38,8 @@ pub(crate) fn split<P: Problem>(
             )
         }
         Conflict::Collision(pair) => {
-            let lower = move_of(&routes[pair.first], pair.instant);
-            let higher = move_of(&routes[pair.second], pair.instant);
+            let lower = step(routes, pair.first, pair.instant);
+            let higher = step(routes, pair.second, pair.instant);
             (
                 SledConstraint {
                     sled: pair.first,

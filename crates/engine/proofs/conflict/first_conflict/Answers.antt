@@ -1,18 +1,13 @@
-use Rattle.std.proofs.Common.{Some, None, ap, ◌∙◌}
-use Rattle.std.specs.Option.{option_map}
-use Rattle.engine.specs.Table.{conflict_of}
-use Rattle.engine.proofs.Scanning.{meeting_first, collision_first}
+use Rattle.std.proofs.Common.{rules}
+use Rattle.engine.specs.declared.conflict.Conflict.TheVariants.{Meeting}
+use Rattle.engine.proofs.Mapped.{mapped_is}
+use Rattle.engine.proofs.Scanning.{conflict_first}
 use Rattle.engine.proofs.conflict.first_conflict.Goals as goal
-
-pub returns-in-Some : goal.returns-in-Some
-returns-in-Some g c =
-    meeting_first (g.P.Problem.model c.args.problem.now).setting c.args.routes.now c.in-Some.pair c.in-Some.ensures
-
-pub returns-in_err-pair : goal.returns-in_err-pair
-returns-in_err-pair g c =
-    ap (option_map conflict_of) c.from_residual.ensures
-    ∙ collision_first (g.P.Problem.model c.args.problem.now).setting c.args.routes.now None c.in_default.ensures c.in_err-pair.ensures
 
 pub returns : goal.returns
 returns g c =
-    collision_first (g.P.Problem.model c.args.problem.now).setting c.args.routes.now (Some c.in_ok-pair.pair) c.in_default.ensures c.in_ok-pair.ensures
+    let S = (g.P.Problem.model c.args.problem.now).setting in
+    let rs = c.args.routes.now in
+    let found = c.first_meeting.result in
+    let meeting = mapped_is Meeting found c.map.result c.map.ensures.cases (λ p x k. search rules) in
+    conflict_first S rs found _ c.or_else.result meeting c.first_meeting.ensures c.or_else.ensures (λ k. search rules)

@@ -1,21 +1,22 @@
-use Rattle.std.proofs.Common.{sym, arith}
-use Rattle.engine.specs.Scans.{at_pair, at_sled}
-use Rattle.engine.proofs.Below.{none_with, found_at, pair_yes}
+use Rattle.std.proofs.Common.{◌≡◌, ℕ, ◌+◌, Bool, refl, ◌∙◌, rules, arith}
+use Rattle.std.specs.Bool.{then_some}
+use Rattle.engine.specs.Scans.{pair_of, at_pair, at_sled}
+use Rattle.engine.proofs.Below.{pair_low, pair_high}
+use Rattle.engine.proofs.Found.{found_below}
+use Rattle.std.proofs.lemmas.Iterator.{serves_from_Range}
+use Rattle.engine.proofs.scan.first_with.Given as given
 use Rattle.engine.proofs.scan.first_with.Goals as goal
 
-pub returns-then-passes : goal.returns-then-passes
-unfolding at_sled
-returns-then-passes g c test h =
-    let t = c.args.instant in
-    let i = c.args.first in
-    let j = c.loop-second.second in
-    let higher = c.loop-second.auto.second in
-    sym (found_at (at_pair c.args.sleds test t i) j c.args.sleds
-    (none_with c.args.sleds test t i j (λ k l m. h k _ l (omega (arith, c.loop-second-test.true)) (c.loop-second.invariant k l m)))
-    (pair_yes c.args.sleds test t i j (omega (arith, higher)) (sym (h j _ (omega (arith, higher)) c.loop-second-test.true c.if-passes.ensures)))
-    c.loop-second-test.true)
+pub find_map-requires-clause-callable : goal.find_map-requires-clause-callable
+find_map-requires-clause-callable g c = serves_from_Range (λ x q k. search rules) (λ x l m.
+    let may : given.F-pre g c.args.passes.now c.args.instant c.args.first x = c.requires.callable x (omega arith) m in search rules)
 
 pub returns : goal.returns
 unfolding at_sled
 returns g c test h =
-    sym (none_with c.args.sleds test c.args.instant c.args.first c.args.sleds (λ k l m. h k _ l m (c.loop-second.invariant k l (omega (arith, c.loop-second-test.false)))))
+    let n = c.args.sleds in
+    let t = c.args.instant in
+    let i = c.args.first in
+    found_below (at_pair n test t i) (i + 1) n (λ k l. pair_low n test t i k (omega arith)) (λ j y q k. search rules) (λ j y m l k.
+    let told : (any : ℕ → ℕ → ℕ → Bool) → ((b : Bool) → given.F-post g c.args.passes.now t i j b → b ≡ any t i j) → y ≡ then_some (any t i j) (pair_of t i j) = search rules in
+    told test (λ b p. h j b (omega arith) l p) ∙ pair_high n test t i j (omega arith)) _ refl c.find_map.result c.find_map.ensures.runs

@@ -4,7 +4,7 @@ use Rattle.std.proofs.lemmas.Bool.{false≢true}
 use Rattle.few.specs.declared.Few.{Few}
 use Rattle.few.specs.Told.{told}
 use Rattle.engine.specs.declared.node.Constraint.{Constraint}
-use Rattle.engine.specs.declared.node.Move.{Move}
+use Rattle.walk.specs.declared.weight.Step.{Step}
 use Rattle.engine.specs.Table.{constraint_of}
 use Rattle.engine.specs.Forbids.{FitsTable, Collected}
 use Rattle.engine.proofs.Collecting.{placed, moved}
@@ -24,5 +24,5 @@ returns-in-Move-clause-added c rest all h =
     let step = c.in-Move.step in
     let same = c.mark_leaving.ensures.same in
     moved c.args.self.now _ rest all step.instant step.from step.to same.0 c.mark_leaving.ensures.marks
-    (on_ok c.push.result (c.push.ensures.room.1 (omega (arith, c.requires.room, ap (λ (ms : Few Move 512). length (told ms)) same.1))) c.push.ensures.added ∙ ap (λ (ms : Few Move 512). told ms ++ step ∷ []) same.1)
+    (on_ok c.push.result (c.push.ensures.room.1 (omega (arith, c.requires.room, ap (λ (ms : Few Step 512). length (told ms)) same.1))) c.push.ensures.added ∙ ap (λ (ms : Few Step 512). told ms ++ step ∷ []) same.1)
     (subst (λ (b : Constraint). Collected c.args.self.now (constraint_of b ∷ rest) all) c.in-Move.is h)
