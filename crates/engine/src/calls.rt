@@ -1,5 +1,5 @@
 // The calls of a search.
-ghost use Rattle.std.specs.Prelude.{◌≡◌, suc, take};
+ghost use Rattle.std.specs.Prelude.{◌≡◌, suc, take, OnErr};
 ghost use Rattle.std.specs.Option.{option_map};
 ghost use Rattle.tree.specs.Tree as tree;
 ghost use Rattle.tree.specs.Calls as calls;
@@ -77,7 +77,8 @@ impl Engine {
 
     // Makes turns until there are as many as asked or the search ends, and answers how many it made.
     pub fn advance<P: Problem>(&mut self, problem: &P, count: u32) -> Result<u32, Refusal>
-        ensures { Answers (P.Problem.model problem.now) self.old self.new (calls.advance count) (told_of calls.made result) }
+        ensures answers { Answers (P.Problem.model problem.now) self.old self.new (calls.advance count) (told_of calls.made result) }
+        ensures kept { OnErr result (self.new ≡ self.old) }
     {
         if !self.is_working() {
             return Err(Refusal::Ended);

@@ -1,6 +1,6 @@
 -- What is asked of two sleds by their numbers, where a number may be too high for a sled.
 use Rattle.std.proofs.Common.{◌≡◌, ℕ, ◌≤◌, ◌⊎◌, Bool, false, Some, None, Option, MatchOption, sym, ◌∙◌}
-use Rattle.split.specs.declared.pair.Pair.{Pair}
+use Rattle.geometry.specs.declared.pair.Pair.{Pair}
 use Rattle.instance.specs.Meetings.{PairTold}
 
 -- an answer that is no of sleds too high, and for the pair says what is meant

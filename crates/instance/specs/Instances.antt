@@ -8,12 +8,9 @@ use Rattle.fleet.specs.Offsets.{Sleds}
 use Rattle.job.specs.declared.job.Job.{Job}
 use Rattle.job.specs.Facts.{facts}
 use Rattle.geometry.specs.Stands.{Standing}
-use Rattle.split.specs.declared.pair.Side as split
 use Rattle.split.specs.declared.pair.Side.TheVariants.{Lower, Upper}
 use Rattle.split.specs.Situations.{Sets}
 use Rattle.tables.specs.TabledFleets.{tabled_sleds}
-use Rattle.engine.specs.declared.side.Side.{Side}
-use Rattle.engine.specs.declared.side.Side.TheVariants.{First, Second}
 use Rattle.engine.specs.Model.{Model}
 use Rattle.plans.specs.Tasks.{Task, task_of}
 use Rattle.plans.specs.Instance.{setting_of, stands_at, in_set}
@@ -41,11 +38,6 @@ model_of K sets =
       first = in_set K sets Lower;
       second = in_set K sets Upper;
     }
-
--- a side of a conflict, as a rule names it
-abbrev pub side_of : Side → split.Side
-side_of First = Lower
-side_of Second = Upper
 
 -- a fleet of that size goes with the job: it has sleds, as many as the job
 abbrev pub FitsJob : Job → (size : ℕ) → Type 0

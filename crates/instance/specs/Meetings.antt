@@ -1,7 +1,7 @@
 -- Two sleds and where they are, by their numbers.
 use Rattle.std.specs.Prelude.{◌≡◌, ℕ, ◌≤◌, ◌⊎◌, Some, None, Option}
 use Rattle.grid.specs.Places.{position_of, position_at}
-use Rattle.split.specs.declared.pair.Pair.{Pair}
+use Rattle.geometry.specs.declared.pair.Pair.{Pair}
 
 -- sled i at u and sled j at v; none where the number of a sled is above 255
 abbrev pub PairTold : (i j u v : ℕ) → Option Pair → Type 0

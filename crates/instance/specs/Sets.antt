@@ -1,5 +1,5 @@
 -- The sets of a splitting rule: wherever a sled is in its set, it still meets the other.
-use Rattle.std.specs.Prelude.{◌≡◌, ℕ, false, ◌&&◌, ◌⊎◌, nat_lt, refl}
+use Rattle.std.specs.Prelude.{◌≡◌, false, ◌&&◌, ◌⊎◌, nat_lt}
 use Rattle.std.proofs.Common.{⊎_elim}
 use Rattle.std.proofs.lemmas.Bool.{and_parts, both_ways, cases_Bool}
 use Rattle.grid.specs.declared.position.Position.{Position}
@@ -8,18 +8,8 @@ use Rattle.geometry.specs.Shares.{share_cell}
 use Rattle.split.specs.declared.pair.Side.{Side}
 use Rattle.split.specs.declared.pair.Side.TheVariants.{Lower, Upper}
 use Rattle.split.specs.Situations.{Situation, Sets, HoldsU, HoldsV, AllShare, OnlyMeeting, on_board}
-use Rattle.engine.specs.declared.side.Side as engine
-use Rattle.engine.specs.declared.side.Side.TheVariants.{First, Second}
-use Rattle.engine.specs.Model.{set_of}
-use Rattle.plans.specs.Tasks.{Task}
-use Rattle.plans.specs.Instance.{in_set, SplitTerms}
-use Rattle.instance.specs.Instances.{model_of, side_of}
+use Rattle.plans.specs.Instance.{SplitTerms}
 use Rattle.instance.specs.Absent.{Nothing, nothing_shares, shares_nothing}
-
--- the sets of a problem's sides are those of the rule's
-pub set_by_side : (K : Task) (sets : Sets) (side : engine.Side) (i j u v w : ℕ) → set_of (model_of K sets) side i j u v w ≡ in_set K sets (side_of side) i j u v w
-set_by_side K sets First i j u v w = refl
-set_by_side K sets Second i j u v w = refl
 
 pub split_terms : (sets : Sets) → HoldsU sets → HoldsV sets → AllShare sets → OnlyMeeting sets → SplitTerms sets
 split_terms sets u v share only = record { holds_u = u; holds_v = v; all_share = share; only_meeting = only }

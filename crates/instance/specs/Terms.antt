@@ -1,5 +1,5 @@
 -- What an instance is to a search keeps the terms of tasks, and with a splitting rule those of problems.
-use Rattle.std.specs.Prelude.{◌≡◌, ℕ, ◌<◌, true, ◌&&◌, [], ℤ, nat_lt, slice_index_or}
+use Rattle.std.specs.Prelude.{◌≡◌, ℕ, ◌<◌, true, ◌&&◌, ℤ, nat_lt, slice_index_or}
 use Rattle.std.proofs.Common.{arith}
 use Rattle.std.proofs.lemmas.Int.{ints}
 use Rattle.std.proofs.lemmas.Bool.{and_parts, and_from, ltb-true, lt-ltb}
@@ -14,16 +14,13 @@ use Rattle.split.specs.Situations.{Sets}
 use Rattle.split.specs.declared.pair.Side.TheVariants.{Lower, Upper}
 use Rattle.tables.specs.declared.tabled.Tabled.{Tabled}
 use Rattle.tables.specs.TabledFleets.{tabled_sleds}
+use Rattle.tables.specs.NoTables.{no_table}
 use Rattle.tables.specs.Tables.{set_of}
 use Rattle.tables.specs.Entries.{each_at, bounds}
-use Rattle.engine.specs.declared.side.Side.{Side}
-use Rattle.engine.specs.declared.side.Side.TheVariants.{First, Second}
-use Rattle.engine.specs.Model as engine
 use Rattle.engine.specs.Model.{Keeps}
 use Rattle.plans.specs.Tasks.{OfFloor, TaskTerms}
-use Rattle.plans.specs.Instance.{stands_at, SplitTerms}
-use Rattle.plans.proofs.Steps.{step_told}
-use Rattle.plans.proofs.Tests.{goes_told, goes_from}
+use Rattle.plans.specs.Instance.{SplitTerms}
+use Rattle.plans.proofs.Tests.{goes_exactly}
 use Rattle.plans.proofs.Terms.{setting_terms, rule_terms, sets_on_board}
 use Rattle.instance.specs.declared.instance.Instance.{Instance}
 use Rattle.instance.specs.Instances.{task_in, model_of}
@@ -41,8 +38,8 @@ tabled_terms t =
           let (by_x, by_y) = and_parts (within 7 x) (within 7 y) both in
           (near x by_x, near y by_y);
       some = λ s below.
-          let entry = λ (s : ℕ). some_offset (set_of 7 (slice_index_or t.tables s [])) in
-          let (x, y, _, _, hit) = offset_is (set_of 7 (slice_index_or t.tables s [])) (each_at entry t.count s below t.some) in
+          let entry = λ (s : ℕ). some_offset (set_of 7 (slice_index_or t.tables s no_table).rows) in
+          let (x, y, _, _, hit) = offset_is (set_of 7 (slice_index_or t.tables s no_table).rows) (each_at entry t.count s below t.some) in
           (x, y, and_from (nat_lt s t.count) _ (lt-ltb s t.count below) hit);
     }
 
@@ -63,10 +60,6 @@ module _ (i : Instance) where
       }
 
   module _ (sets : Sets) (split : SplitTerms sets) where
-    sets_on : (side : Side) (a b u v w : ℕ) → engine.set_of (model_of (task_in i) sets) side a b u v w ≡ true → w < 256
-    sets_on First = sets_on_board (task_in i) task_terms sets split Lower
-    sets_on Second = sets_on_board (task_in i) task_terms sets split Upper
-
     pub keeps_terms : Keeps (model_of (task_in i) sets)
     keeps_terms =
         record {
@@ -74,13 +67,7 @@ module _ (i : Instance) where
           rule = rule_terms (task_in i) task_terms sets split;
           few = i.fleet.few;
           short = i.horizon.most;
-          steps = λ s t u v. (
-            λ e.
-                let (from, to, step) = goes_told (task_in i) s u v e in
-                ((step_told u v).0 step, and_from (stands_at (task_in i) s u) (stands_at (task_in i) s v) from to),
-            λ (step, both).
-                let (from, to) = and_parts (stands_at (task_in i) s u) (stands_at (task_in i) s v) both in
-                goes_from (task_in i) s u v from to ((step_told u v).1 step),
-          );
-          sets_on = sets_on;
+          steps = λ s t. goes_exactly (task_in i) s;
+          first_on = sets_on_board (task_in i) task_terms sets split Lower;
+          second_on = sets_on_board (task_in i) task_terms sets split Upper;
         }

@@ -1,17 +1,18 @@
 // Two sleds and where they are, by their numbers.
 ghost use Rattle.instance.specs.Meetings.{PairTold};
 
+use engine::problem::At;
 use grid::place::Place;
 use split::pair::Pair;
 
-// Sled i at u and sled j at v; none where a number is too high for a sled of any fleet.
-pub(crate) fn pair_at(i: usize, j: usize, u: u8, v: u8) -> Option<Pair>
-    ensures { PairTold i j u v result }
+// Both sleds at their places; none where a number is too high for a sled of any fleet.
+pub(crate) fn pair_at(a: At, b: At) -> Option<Pair>
+    ensures { PairTold a.sled b.sled a.place b.place result }
 {
     Some(Pair {
-        i: u8::try_from(i).ok()?,
-        j: u8::try_from(j).ok()?,
-        u: Place::from(u),
-        v: Place::from(v),
+        i: u8::try_from(a.sled).ok()?,
+        j: u8::try_from(b.sled).ok()?,
+        u: Place::from(a.place),
+        v: Place::from(b.place),
     })
 }

@@ -1,22 +1,22 @@
 // An instance with a splitting rule, as the problem that a search has to solve.
-ghost use Rattle.std.specs.Prelude.{◌≡◌, ℕ, ◌<◌, false, length, slice_index_or};
+ghost use Rattle.std.specs.Prelude.{◌≡◌, ℕ, ◌<◌, false, slice_index_or};
 ghost use Rattle.grid.specs.Places.{position_of, position_at};
 ghost use Rattle.split.specs.Situations.{situation};
 ghost use Rattle.tables.specs.TabledFleets.{tabled_sleds};
-ghost use Rattle.instance.specs.Instances.{task_in, model_of, side_of};
+ghost use Rattle.instance.specs.Instances.{task_in, model_of};
 ghost use Rattle.instance.specs.Sets.{split_terms};
 ghost use Rattle.instance.specs.Terms.{keeps_terms};
 
 use crate::instance::Instance;
 use crate::meeting::pair_at;
-use engine::node::PlaceSet;
-use engine::problem::Problem;
-use engine::side::Side;
+use engine::node::{PlaceSet, Sets};
+use engine::problem::{At, Going, Problem};
 use grid::place::{BOARD_PLACES, Place};
-use split::pair::Pair;
-use split::{SplitRule, pair};
+use split::SplitRule;
+use split::pair::{Pair, Side};
 use std::array;
 use walk::horizon::Horizon;
+use walk::weight::Step;
 
 #[derive(Drop)]
 pub struct Ruled<'a, R> {
@@ -27,8 +27,7 @@ pub struct Ruled<'a, R> {
 impl<R: SplitRule> Ruled<'_, R> {
     // The set of a side.
     fn set_of(&self, side: Side, pair: Pair) -> PlaceSet
-        ensures places { (w : ℕ) → w < 256 → slice_index_or result w false ≡ R.SplitRule.sets self.now.rule.now (situation self.now.instance.now.fleet.count (tabled_sleds self.now.instance.now.fleet) pair) (side_of side) (position_at w) }
-        ensures size { length result ≡ 256 }
+        ensures { (w : ℕ) → w < 256 → slice_index_or result w false ≡ R.SplitRule.sets self.now.rule.now (situation self.now.instance.now.fleet.count (tabled_sleds self.now.instance.now.fleet) pair) side (position_at w) }
     {
         array::from_fn(
             |number|
@@ -39,18 +38,13 @@ impl<R: SplitRule> Ruled<'_, R> {
 
     // Whether a place is in the set of a side. At such a place the sled still meets the other, so the rule is asked of no others.
     fn holds(&self, side: Side, pair: Pair, w: Place) -> bool
-        ensures { result ≡ R.SplitRule.sets self.now.rule.now (situation self.now.instance.now.fleet.count (tabled_sleds self.now.instance.now.fleet) pair) (side_of side) (position_of w) }
+        ensures { result ≡ R.SplitRule.sets self.now.rule.now (situation self.now.instance.now.fleet.count (tabled_sleds self.now.instance.now.fleet) pair) side (position_of w) }
     {
-        match side {
-            Side::First => self.instance.share_cell(Pair { u: w, ..pair })
-                && self
-                    .rule
-                    .contains(self.instance.fleet(), pair, pair::Side::Lower, w),
-            Side::Second => self.instance.share_cell(Pair { v: w, ..pair })
-                && self
-                    .rule
-                    .contains(self.instance.fleet(), pair, pair::Side::Upper, w),
-        }
+        let moved = match side {
+            Side::Lower => Pair { u: w, ..pair },
+            Side::Upper => Pair { v: w, ..pair },
+        };
+        self.instance.share_cell(moved) && self.rule.contains(self.instance.fleet(), pair, side, w)
     }
 }
 
@@ -79,22 +73,28 @@ impl<R: SplitRule> Problem for Ruled<'_, R> {
         self.instance.goal(sled)
     }
 
-    fn allows(&self, sled: usize, _instant: u8, from: u8, to: u8) -> bool {
-        self.instance.stands(sled, from) && self.instance.stands(sled, to)
+    fn allows(&self, sled: usize, step: Step) -> bool {
+        self.instance.stands(sled, step.from) && self.instance.stands(sled, step.to)
     }
 
-    fn meets(&self, i: usize, j: usize, u: u8, v: u8) -> bool {
-        self.instance.meet(i, j, u, v)
+    fn meets(&self, a: At, b: At) -> bool {
+        self.instance.meet(a, b)
     }
 
-    fn collides(&self, i: usize, j: usize, u: u8, u2: u8, v: u8, v2: u8) -> bool {
-        self.instance.collide(i, j, u, u2, v, v2)
+    fn collides(&self, a: Going, b: Going) -> bool {
+        self.instance.collide(a, b)
     }
 
-    fn splits(&self, side: Side, i: usize, j: usize, u: u8, v: u8) -> PlaceSet {
-        match pair_at(i, j, u, v) {
-            Some(pair) => self.set_of(side, pair),
-            None => [false; BOARD_PLACES],
+    fn splits(&self, a: At, b: At) -> Sets {
+        match pair_at(a, b) {
+            Some(pair) => Sets {
+                lower: self.set_of(Side::Lower, pair),
+                higher: self.set_of(Side::Upper, pair),
+            },
+            None => Sets {
+                lower: [false; BOARD_PLACES],
+                higher: [false; BOARD_PLACES],
+            },
         }
     }
 }

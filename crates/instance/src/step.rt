@@ -1,6 +1,8 @@
-// The move from one place to another.
+// Steps from one place to another.
+ghost use Rattle.std.specs.Prelude.{◌≡◌};
 ghost use Rattle.instance.specs.Steps.{MoveTold};
 
+use engine::problem::{At, Going};
 use grid::moves::Move;
 use grid::place::BOARD_SIDE;
 
@@ -11,6 +13,7 @@ pub(crate) fn move_between(from: u8, to: u8) -> Option<Move>
 {
     let side = BOARD_SIDE as usize;
     let (from, to) = (from as usize, to as usize);
+    // By hand: it compares two places, where a search over the moves would work out each one's neighbour.
     if from == to {
         Some(Move::Wait)
     } else if from == to + side {
@@ -23,5 +26,25 @@ pub(crate) fn move_between(from: u8, to: u8) -> Option<Move>
         Some(Move::East)
     } else {
         None
+    }
+}
+
+// A sled before its step.
+pub(crate) fn leaving(going: Going) -> At
+    ensures { result ≡ record { sled = going.sled; place = going.from } }
+{
+    At {
+        sled: going.sled,
+        place: going.from,
+    }
+}
+
+// A sled after its step.
+pub(crate) fn arriving(going: Going) -> At
+    ensures { result ≡ record { sled = going.sled; place = going.to } }
+{
+    At {
+        sled: going.sled,
+        place: going.to,
     }
 }

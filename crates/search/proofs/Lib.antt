@@ -1,5 +1,4 @@
 pub mod Turns
-pub mod Replies
 pub mod Going
 pub mod Advancing
 pub mod Answering

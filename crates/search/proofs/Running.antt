@@ -7,6 +7,8 @@ use Rattle.tree.specs.Search as search
 use Rattle.tree.specs.Tree.{turns}
 use Rattle.tree.specs.Calls as tree
 use Rattle.tree.specs.Law.{granted, count}
+use Rattle.engine.specs.declared.call.Call.{Call}
+use Rattle.engine.specs.Calls.{call_of}
 use Rattle.job.specs.declared.job.Job.{Job}
 use Rattle.job.specs.Facts.{facts}
 use Rattle.plans.specs.Tasks.{task_of}
@@ -15,10 +17,9 @@ use Rattle.plans.specs.Promise.{Promise}
 use Rattle.plans.proofs.Terms.{jobs_are_tasks}
 use Rattle.plans.proofs.Promise.{every_run_keeps_the_promise}
 use Rattle.instance.specs.Instances.{FitsJob}
-use Rattle.search.specs.declared.call.Call.{Call}
 use Rattle.search.specs.declared.call.Answer.{Answer}
 use Rattle.search.specs.declared.state.Search.{Search}
-use Rattle.search.specs.Words.{call_of, IsAnswer, AreAnswers}
+use Rattle.search.specs.Words.{IsAnswer, AreAnswers}
 use Rattle.search.specs.States.{planning, OpenedAt}
 use Rattle.search.specs.Workings.{events_of, Answers, AllAnswers}
 use Rattle.search.proofs.Turns.{event_at, run_push, granted_push}

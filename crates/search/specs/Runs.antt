@@ -6,13 +6,14 @@ use Rattle.job.specs.Facts.{facts}
 use Rattle.split.specs.Situations.{Sets}
 use Rattle.tree.specs.Calls.{Event}
 use Rattle.tree.specs.Law.{granted}
+use Rattle.engine.specs.declared.call.Call.{Call}
+use Rattle.engine.specs.Calls.{call_of}
 use Rattle.plans.specs.Promise.{Promise}
-use Rattle.search.specs.declared.call.Call.{Call}
 use Rattle.search.specs.declared.call.Answer.{Answer}
 use Rattle.search.specs.declared.call.RunError.{RunError}
 use Rattle.search.specs.declared.call.RunError.TheVariants as errors
 use Rattle.search.specs.declared.state.Search.{Search}
-use Rattle.search.specs.Words.{call_of, AreAnswers}
+use Rattle.search.specs.Words.{AreAnswers}
 use Rattle.search.specs.States.{Idle, OpenedAt, SameParts}
 use Rattle.search.specs.Opening.{asked, Refused}
 

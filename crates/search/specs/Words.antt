@@ -1,15 +1,12 @@
 -- The words of a search and those of the constraint tree.
 use Rattle.std.specs.Prelude.{◌≡◌, List, [], ◌∷◌, Ok, Err, Result}
-use Rattle.fault.specs.declared.cause.Cause.TheVariants as causes
 use Rattle.fault.specs.declared.cause.Fault.{Fault}
-use Rattle.fault.specs.Causes.{fault_at}
 use Rattle.grid.specs.declared.place.Place.{Place}
 use Rattle.grid.specs.Places.{place_number}
 use Rattle.tree.specs.Calls as tree
+use Rattle.engine.specs.Calls.{fault_of}
 use Rattle.search.specs.declared.verdict.Verdict.{Verdict}
 use Rattle.search.specs.declared.verdict.Verdict.TheVariants as verdicts
-use Rattle.search.specs.declared.call.Call.{Call}
-use Rattle.search.specs.declared.call.Call.TheVariants as calls
 use Rattle.search.specs.declared.call.Answer.{Answer}
 use Rattle.search.specs.declared.call.Answer.TheVariants as answers
 
@@ -20,13 +17,6 @@ verdict_of tree.Solved = verdicts.Solved
 verdict_of tree.Unsolvable = verdicts.NoPlan
 verdict_of tree.Full = verdicts.Full
 
--- a refusal by its fault
-abbrev pub fault_of : tree.Refusal → Fault
-fault_of tree.Ended = fault_at causes.WrongState 0
-fault_of tree.NoTurns = fault_at causes.NoTurns 0
-fault_of tree.NotSolved = fault_at causes.NotSolved 0
-fault_of tree.TooHigh = fault_at causes.NumberTooHigh 0
-
 -- a place by its number
 abbrev pub at_place : Place → tree.Answer
 at_place p = tree.stands (place_number p)
@@ -35,12 +25,6 @@ at_place p = tree.stands (place_number p)
 abbrev pub Tells : {X : Type 0} → (X → tree.Answer) → tree.Answer → Result X Fault → Type 0
 Tells word a (Ok x) = a ≡ word x
 Tells word a (Err f) = (r : tree.Refusal) × (a ≡ tree.refused r) × (f ≡ fault_of r)
-
-abbrev pub call_of : Call → tree.Call
-call_of (calls.Advance count) = tree.advance count
-call_of calls.Bound = tree.ask_bound
-call_of calls.Verdict = tree.ask_verdict
-call_of (calls.Place sled instant) = tree.ask_place sled instant
 
 -- the answer of a call is the tree's
 abbrev pub IsAnswer : tree.Answer → Answer → Type 0

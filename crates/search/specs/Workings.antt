@@ -8,15 +8,16 @@ use Rattle.tree.specs.Search as search
 use Rattle.tree.specs.Tree.{Tree, Verdict, working, solved, none, full, bound, turns}
 use Rattle.tree.specs.Calls as tree
 use Rattle.tree.specs.Law.{granted, count}
+use Rattle.engine.specs.declared.call.Call.{Call}
 use Rattle.engine.specs.declared.state.Engine.{Engine}
+use Rattle.engine.specs.Calls.{call_of}
 use Rattle.engine.specs.Engine.{IsAt}
 use Rattle.engine.specs.Model.{Model}
 use Rattle.plans.specs.Tasks.{Task}
 use Rattle.plans.specs.Instance.{setting_of}
-use Rattle.search.specs.declared.call.Call.{Call}
 use Rattle.search.specs.declared.call.Answer.{Answer}
 use Rattle.search.specs.declared.state.Search.{Search}
-use Rattle.search.specs.Words.{call_of, IsAnswer, AreAnswers}
+use Rattle.search.specs.Words.{IsAnswer, AreAnswers}
 use Rattle.search.specs.States.{planning, tree_after, OpenedAt, ByState, SameParts}
 
 -- the calls and answers of the tree, from the root on

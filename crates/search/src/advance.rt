@@ -2,7 +2,6 @@
 ghost use Rattle.search.specs.Advancing.{Advances};
 
 use crate::Search;
-use engine::call::Status;
 use fault::cause::{Cause, Fault};
 use fleet::Fleet;
 use instance::ruled::Ruled;
@@ -16,18 +15,11 @@ impl<F: Fleet, R: SplitRule> Search<F, R> {
         let Some(opened) = self.opened.as_mut() else {
             return Err(Cause::WrongState.at(0));
         };
-        // By hand: a refusal leaves the search as it was, which the engine does not promise of its own.
-        let Status::Working = self.engine.verdict() else {
-            return Err(Cause::WrongState.at(0));
-        };
-        if count == 0 {
-            return Err(Cause::NoTurns.at(0));
-        }
         let problem = Ruled {
             instance: &opened.instance,
             rule: &self.rule,
         };
-        let made = self.engine.advance(&problem, count).unwrap_or(0);
+        let made = self.engine.advance(&problem, count)?;
         opened.turns = opened.turns.saturating_add(made);
         Ok(made)
     }

@@ -8,15 +8,9 @@ use grid::place::Place;
 use std::alloc::AllocError;
 
 // Make so many turns; tell the bound; tell the verdict; tell the place of a sled at an instant.
-#[derive(Clone, Copy)]
-pub enum Call {
-    Advance(u32),
-    Bound,
-    Verdict,
-    Place { sled: usize, instant: usize },
-}
+pub use engine::call::Call;
 
-// What each of these calls answers.
+// What each call answers.
 #[derive(Clone, Copy)]
 pub enum Answer {
     Advanced(Result<u32, Fault>),

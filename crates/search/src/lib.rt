@@ -10,6 +10,5 @@ mod run;
 mod state;
 mod tell;
 pub mod verdict;
-mod words;
 
 pub use state::Search;

@@ -8,8 +8,9 @@ use fleet::Fleet;
 use instance::ruled::Ruled;
 use split::SplitRule;
 use walk::count::Count;
+use walk::errand::Errand;
 use walk::tally::count_routes;
-use walk::weight::Steps;
+use walk::weight::{Step, Steps};
 
 // The steps of a sled under no constraints. The engine has its own, under those of a node: one for both would carry a table that is
 // always empty here.
@@ -22,8 +23,8 @@ struct SledSteps<'a, P> {
 impl<'a, P: Problem> Steps<bool> for SledSteps<'a, P> {
     ghost step = { λ x t u v. (P.Problem.model x.problem.now).allowed x.sled t u v };
 
-    fn weight(&self, instant: u8, from: u8, to: u8) -> bool {
-        self.problem.allows(self.sled, instant, from, to)
+    fn weight(&self, taken: Step) -> bool {
+        self.problem.allows(self.sled, taken)
     }
 }
 
@@ -47,13 +48,11 @@ impl<F: Fleet, R: SplitRule> Search<F, R> {
             problem: &problem,
             sled,
         };
-        count_routes(
-            &steps,
-            problem.start(sled),
-            problem.goal(sled),
-            problem.horizon(),
-            row,
-            spare,
-        )
+        let errand = Errand {
+            start: problem.start(sled),
+            goal: problem.goal(sled),
+            horizon: problem.horizon(),
+        };
+        count_routes(&steps, errand, row, spare)
     }
 }

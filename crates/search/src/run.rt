@@ -1,6 +1,6 @@
 // A search from its opening on: a list of calls, one after the other.
 ghost use Rattle.std.specs.Prelude.{◌≡◌, ◌≤◌, [], length, vec_len, vec_capacity};
-ghost use Rattle.search.specs.Words.{call_of};
+ghost use Rattle.engine.specs.Calls.{call_of};
 ghost use Rattle.search.specs.Runs.{Runs};
 ghost use Rattle.search.specs.Workings.{Answers, AllAnswers};
 

@@ -3,7 +3,6 @@ ghost use Rattle.search.specs.Telling.{TellsBound, TellsVerdict, TellsPlace, Tel
 
 use crate::Search;
 use crate::verdict::Verdict;
-use crate::words::told_as_fault;
 use fault::cause::{Cause, Fault};
 use fleet::Fleet;
 use grid::place::Place;
@@ -41,10 +40,7 @@ impl<F: Fleet, R: SplitRule> Search<F, R> {
             instance: &opened.instance,
             rule: &self.rule,
         };
-        let number = self
-            .engine
-            .place(&problem, sled, instant)
-            .map_err(told_as_fault)?;
+        let number = self.engine.place(&problem, sled, instant)?;
         Ok(Place::from(number))
     }
 

@@ -10,7 +10,8 @@ ghost use Rattle.instance.specs.Instances.{task_in};
 
 use crate::instance::Instance;
 use crate::meeting::pair_at;
-use crate::step::move_between;
+use crate::step::{arriving, leaving, move_between};
+use engine::problem::{At, Going};
 use fleet::Fleet;
 use geometry::collision::collides;
 use geometry::sharing::shares_cell;
@@ -94,27 +95,27 @@ impl Instance {
         }
     }
 
-    // Whether sled i at u and sled j at v meet.
-    pub(crate) fn meet(&self, i: usize, j: usize, u: u8, v: u8) -> bool
-        ensures { result ≡ meets_at (task_in self.now) i j u v }
+    // Whether two sleds meet where they are.
+    pub(crate) fn meet(&self, a: At, b: At) -> bool
+        ensures { result ≡ meets_at (task_in self.now) a.sled b.sled a.place b.place }
     {
-        pair_at(i, j, u, v).is_some_and(|pair| self.share_cell(pair))
+        pair_at(a, b).is_some_and(|pair| self.share_cell(pair))
     }
 
-    // Whether sled i from u to u2 and sled j from v to v2 collide in one step.
-    pub(crate) fn collide(&self, i: usize, j: usize, u: u8, u2: u8, v: u8, v2: u8) -> bool
-        ensures { result ≡ collides_in (task_in self.now) i j u u2 v v2 }
+    // Whether two sleds collide in one step. Where one of them makes no step, it only counts whether they meet.
+    pub(crate) fn collide(&self, a: Going, b: Going) -> bool
+        ensures { result ≡ collides_in (task_in self.now) a.sled b.sled a.from a.to b.from b.to }
     {
-        match move_between(u, u2).zip(move_between(v, v2)) {
-            Some((a, b)) => self.collide_by(i, j, u, a, v, b),
-            None => self.meet(i, j, u, v) || self.meet(i, j, u2, v2),
+        match move_between(a.from, a.to).zip(move_between(b.from, b.to)) {
+            Some((first, second)) => self.collide_by(leaving(a), first, leaving(b), second),
+            None => self.meet(leaving(a), leaving(b)) || self.meet(arriving(a), arriving(b)),
         }
     }
 
-    // Whether sled i, moving by a from u, and sled j, moving by b from v, collide.
-    fn collide_by(&self, i: usize, j: usize, u: u8, a: Move, v: u8, b: Move) -> bool
-        ensures { result ≡ collide (tabled_sleds self.now.fleet i) (position_at u) a (tabled_sleds self.now.fleet j) (position_at v) b }
+    // Whether two sleds collide, each of which makes a move from where it is.
+    fn collide_by(&self, a: At, first: Move, b: At, second: Move) -> bool
+        ensures { result ≡ collide (tabled_sleds self.now.fleet a.sled) (position_at a.place) first (tabled_sleds self.now.fleet b.sled) (position_at b.place) second }
     {
-        pair_at(i, j, u, v).is_some_and(|pair| self.collide_moving(pair, a, b))
+        pair_at(a, b).is_some_and(|pair| self.collide_moving(pair, first, second))
     }
 }

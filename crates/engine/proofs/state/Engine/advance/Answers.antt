@@ -3,8 +3,8 @@ use Rattle.tree.specs.Calls as calls
 use Rattle.engine.proofs.Calling.{told_ended, told_no_turns, told_made}
 use Rattle.engine.proofs.state.Engine.advance.Goals as goal
 
-pub returns-then-not-is_working : goal.returns-then-not-is_working
-returns-then-not-is_working g c =
+pub returns-then-not-is_working-clause-answers : goal.returns-then-not-is_working-clause-answers
+returns-then-not-is_working-clause-answers g c =
     let e = c.args.self.now in
     let m = g.P.Problem.model c.args.problem.now in
     let v = e.table.nodes.items in
@@ -15,8 +15,8 @@ returns-then-not-is_working g c =
       same_limit = refl;
     }
 
-pub returns-then-count-eq0 : goal.returns-then-count-eq0
-returns-then-count-eq0 g c =
+pub returns-then-count-eq0-clause-answers : goal.returns-then-count-eq0-clause-answers
+returns-then-count-eq0-clause-answers g c =
     let e = c.args.self.now in
     let m = g.P.Problem.model c.args.problem.now in
     let v = e.table.nodes.items in
@@ -27,9 +27,9 @@ returns-then-count-eq0 g c =
       same_limit = refl;
     }
 
-pub returns : goal.returns
+pub returns-clause-answers : goal.returns-clause-answers
 unfolding calls.after
-returns g c =
+returns-clause-answers g c =
     let e = c.args.self.now in
     let m = g.P.Problem.model c.args.problem.now in
     record {

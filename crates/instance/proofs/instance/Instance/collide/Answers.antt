@@ -4,12 +4,21 @@ use Rattle.std.proofs.lemmas.Option.{none-some, same_Some}
 use Rattle.std.proofs.lemmas.Bool.{cases_Bool, and_left, and_right}
 use Rattle.grid.specs.declared.moves.Move.{Move}
 use Rattle.grid.specs.Board.{Leads, Step}
+use Rattle.geometry.specs.Collisions.{collide}
+use Rattle.grid.specs.Places.{position_at}
+use Rattle.tables.specs.TabledFleets.{tabled_sleds}
+use Rattle.engine.specs.declared.problem.At.{At}
+use Rattle.plans.specs.Tasks.{Task}
 use Rattle.plans.specs.Instance.{is_step, meets_at}
 use Rattle.plans.proofs.Steps.{step_told}
 use Rattle.plans.proofs.Tests.{collides_by_moves, collides_without_step}
 use Rattle.instance.specs.Instances.{task_in}
 use Rattle.instance.specs.Steps.{MoveTold}
 use Rattle.instance.proofs.instance.Instance.collide.Goals as goal
+
+-- sleds at the same places meet alike
+at : (K : Task) (a b x y : At) → a ≡ x → b ≡ y → meets_at K a.sled b.sled a.place b.place ≡ meets_at K x.sled y.sled x.place y.place
+at K a b x y e h = λ i. meets_at K (e i).sled (h i).sled (e i).place (h i).place
 
 no_step : (u v : ℕ) → (Step u v → ⊥) → is_step u v ≡ false
 no_step u v none = ⊎_elim (λ e. absurd (none ((step_told u v).0 e))) (λ e. e) (cases_Bool (is_step u v))
@@ -29,37 +38,31 @@ module _ (u u2 v v2 : ℕ) where
 
 pub returns-in-Some : goal.returns-in-Some
 returns-in-Some c =
-    let i = c.args.i in
-    let j = c.args.j in
-    let u = c.args.u in
-    let u2 = c.args.u2 in
-    let v = c.args.v in
-    let v2 = c.args.v2 in
-    let a = c.in-Some.a in
-    let b = c.in-Some.b in
-    let (first, second) = both_step u u2 v v2 a b c.move_between.result c.move_between-2.result c.move_between.ensures c.move_between-2.ensures (sym c.in-Some.is ∙ c.zip.ensures) in
-    c.collide_by.ensures ∙ sym (collides_by_moves (task_in c.args.self.now) i j u u2 v v2 a b first second)
+    let t = c.args.self.now.fleet in
+    let x = c.args.a in
+    let y = c.args.b in
+    let m = c.in-Some.first in
+    let n = c.in-Some.second in
+    let (first, second) = both_step x.from x.to y.from y.to m n c.move_between.result c.move_between-2.result c.move_between.ensures c.move_between-2.ensures (sym c.in-Some.is ∙ c.zip.ensures) in
+    c.collide_by.ensures
+    ∙ (λ i. collide (tabled_sleds t (c.leaving.ensures i).sled) (position_at (c.leaving.ensures i).place) m (tabled_sleds t (c.leaving-in-Some.ensures i).sled) (position_at (c.leaving-in-Some.ensures i).place) n)
+    ∙ sym (collides_by_moves (task_in c.args.self.now) x.sled y.sled x.from x.to y.from y.to m n first second)
 
 pub returns-then-meet : goal.returns-then-meet
 returns-then-meet c =
     let K = task_in c.args.self.now in
-    let i = c.args.i in
-    let j = c.args.j in
-    let u = c.args.u in
-    let u2 = c.args.u2 in
-    let v = c.args.v in
-    let v2 = c.args.v2 in
-    let rest = not_both u u2 v v2 c.move_between.result c.move_between-2.result c.move_between.ensures c.move_between-2.ensures (sym c.in-None.is ∙ c.zip.ensures) in
-    c.if-meet.true ∙ sym (collides_without_step K i j u u2 v v2 rest ∙ ap (λ met. met || meets_at K i j u2 v2) (sym c.meet.ensures ∙ c.if-meet.true))
+    let x = c.args.a in
+    let y = c.args.b in
+    let rest = not_both x.from x.to y.from y.to c.move_between.result c.move_between-2.result c.move_between.ensures c.move_between-2.ensures (sym c.in-None.is ∙ c.zip.ensures) in
+    let met = c.meet.ensures ∙ at K c.leaving-in-None.result c.leaving-in-None-2.result (record { sled = x.sled; place = x.from }) (record { sled = y.sled; place = y.from }) c.leaving-in-None.ensures c.leaving-in-None-2.ensures in
+    c.if-meet.true ∙ sym (collides_without_step K x.sled y.sled x.from x.to y.from y.to rest ∙ ap (λ met. met || meets_at K x.sled y.sled x.to y.to) (sym met ∙ c.if-meet.true))
 
 pub returns-else-meet : goal.returns-else-meet
 returns-else-meet c =
     let K = task_in c.args.self.now in
-    let i = c.args.i in
-    let j = c.args.j in
-    let u = c.args.u in
-    let u2 = c.args.u2 in
-    let v = c.args.v in
-    let v2 = c.args.v2 in
-    let rest = not_both u u2 v v2 c.move_between.result c.move_between-2.result c.move_between.ensures c.move_between-2.ensures (sym c.in-None.is ∙ c.zip.ensures) in
-    c.meet-else-meet.ensures ∙ sym (collides_without_step K i j u u2 v v2 rest ∙ ap (λ met. met || meets_at K i j u2 v2) (sym c.meet.ensures ∙ c.if-meet.false))
+    let x = c.args.a in
+    let y = c.args.b in
+    let rest = not_both x.from x.to y.from y.to c.move_between.result c.move_between-2.result c.move_between.ensures c.move_between-2.ensures (sym c.in-None.is ∙ c.zip.ensures) in
+    let met = c.meet.ensures ∙ at K c.leaving-in-None.result c.leaving-in-None-2.result (record { sled = x.sled; place = x.from }) (record { sled = y.sled; place = y.from }) c.leaving-in-None.ensures c.leaving-in-None-2.ensures in
+    let later = c.meet-else-meet.ensures ∙ at K c.arriving.result c.arriving-else-meet.result (record { sled = x.sled; place = x.to }) (record { sled = y.sled; place = y.to }) c.arriving.ensures c.arriving-else-meet.ensures in
+    later ∙ sym (collides_without_step K x.sled y.sled x.from x.to y.from y.to rest ∙ ap (λ met. met || meets_at K x.sled y.sled x.to y.to) (sym met ∙ c.if-meet.false))

@@ -10,12 +10,12 @@ pub returns : goal.returns
 returns c =
     let t = c.args.self.now.fleet in
     let few = t.few in
-    let i = c.args.i in
-    let j = c.args.j in
-    let u = c.args.u in
-    let v = c.args.v in
-    let a = c.args.a in
-    let b = c.args.b in
+    let i = c.args.a.sled in
+    let j = c.args.b.sled in
+    let u = c.args.a.place in
+    let v = c.args.b.place in
+    let a = c.args.first in
+    let b = c.args.second in
     let r = c.is_some_and.result in
     by_pair i j u v c.pair_at.result _ r (collide (tabled_sleds t i) (position_at u) a (tabled_sleds t j) (position_at v) b) c.pair_at.ensures c.is_some_and.ensures
     (⊎_elim

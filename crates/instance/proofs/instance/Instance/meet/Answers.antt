@@ -13,10 +13,10 @@ pub returns : goal.returns
 returns c =
     let t = c.args.self.now.fleet in
     let few = t.few in
-    let i = c.args.i in
-    let j = c.args.j in
-    let u = c.args.u in
-    let v = c.args.v in
+    let i = c.args.a.sled in
+    let j = c.args.b.sled in
+    let u = c.args.a.place in
+    let v = c.args.b.place in
     let r = c.is_some_and.result in
     let on_board = meets_on_board (task_in c.args.self.now) i j u v (omega arith) (omega arith) in
     by_pair i j u v c.pair_at.result _ r (meets_at (task_in c.args.self.now) i j u v) c.pair_at.ensures c.is_some_and.ensures

@@ -13,7 +13,7 @@ returns-in-None c =
     let i = c.args.self.now in
     let s = c.args.sled in
     c.has.ensures
-    ∙ ap (λ (u : Position). on_floor i.floor u.column u.row) c.from_number.ensures.place
+    ∙ ap (λ (u : Position). on_floor i.floor u.column u.row) c.from.ensures.place
     ∙ sym (nothing_stands (tabled_sleds i.fleet s) i.floor (position_at c.args.place) (absent i.fleet s (omega (arith, i.fleet.few, c.in-None.ensures.lookup.3))))
 
 pub returns-in-Some : goal.returns-in-Some

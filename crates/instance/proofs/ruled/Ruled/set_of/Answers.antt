@@ -2,17 +2,12 @@ use Rattle.std.proofs.Common.{◌≡◌, false, rules}
 use Rattle.grid.specs.Places.{position_at}
 use Rattle.split.specs.Situations.{situation}
 use Rattle.tables.specs.TabledFleets.{tabled_sleds}
-use Rattle.instance.specs.Instances.{side_of}
 use Rattle.instance.proofs.Filled.{filled}
 use Rattle.instance.proofs.ruled.Ruled.set_of.Goals as goal
 
 pub returns : goal.returns
-returns g c =
+returns g c w =
     let p = c.args.self.now in
     let t = p.instance.now.fleet in
-    record {
-      places = λ w.
-          filled (λ w b. b ≡ g.R.SplitRule.sets p.rule.now (situation t.count (tabled_sleds t) c.args.pair) (side_of c.args.side) (position_at w)) c.from_fn.result 256 c.from_fn.ensures.items
-          (λ w b f few called. search rules) w false;
-      size = c.from_fn.ensures.items.long;
-    }
+    filled (λ w b. b ≡ g.R.SplitRule.sets p.rule.now (situation t.count (tabled_sleds t) c.args.pair) c.args.side (position_at w)) c.from_fn.result 256 c.from_fn.ensures.items (λ w b f few called. search rules) w
+    false

@@ -1,5 +1,5 @@
 use Rattle.std.proofs.Common.{ap}
-use Rattle.search.specs.Words.{call_of}
+use Rattle.engine.specs.Calls.{call_of}
 use Rattle.search.proofs.Answering.{answers_bound, answers_verdict, answers_place, answers_advance, answers_as}
 use Rattle.search.proofs.state.Search.answer.Goals as goal
 

@@ -1,7 +1,7 @@
 use Rattle.std.proofs.Common.{◌+◌, List, [], ◌∷◌, ◌++◌, get_or, take, vec_items, sym, subst, arith}
 use Rattle.std.proofs.lemmas.List.{take_more, take_all}
-use Rattle.search.specs.declared.call.Call.{Call}
-use Rattle.search.specs.declared.call.Call.TheVariants.{Advance}
+use Rattle.engine.specs.declared.call.Call.{Call}
+use Rattle.engine.specs.declared.call.Call.TheVariants.{Advance}
 use Rattle.search.specs.declared.call.Answer.{Answer}
 use Rattle.search.specs.Workings.{AllAnswers}
 use Rattle.search.proofs.Running.{answers_none, answers_push}

@@ -1,4 +1,5 @@
-use Rattle.std.proofs.Common.{ℕ, ◌≤◌, [], get_or, sym, refl, ap, ◌∙◌, subst, arith}
+use Rattle.std.proofs.Common.{◌≡◌, ℕ, suc, ◌≤◌, [], get_or, take, sym, refl, ap, ◌∙◌, subst, arith}
+use Rattle.std.proofs.lemmas.List.{get_or-take, length-take-le}
 use Rattle.plans.specs.Tasks.{Task}
 use Rattle.plans.specs.Instance.{setting_of}
 use Rattle.instance.specs.Instances.{model_of}
@@ -25,9 +26,11 @@ returns g c =
     let P = planning sets s K in
     let t = tree_after sets s K limit n in
     let task = same_task sets s x K limit n o held in
+    let sleds : c.sleds-sleds.result ≡ K.sleds = c.sleds-sleds.ensures ∙ ap (λ (k : Task). k.sleds) task in
     let few = subst (λ (k : Task). k.sleds ≤ 6) task (task_terms x.instance).fleet.few in
     subst (λ (m : ℕ). PrintsTree before after r (setting_of K) t m t.verdict) (ap (λ (y : Opened). y.turns) (sym held) ∙ o.turns_are)
-    (printed before after r P t _ (c.sleds.ensures ∙ ap (λ (k : Task). k.sleds) task) (c.horizon.ensures ∙ ap (λ (k : Task). k.horizon) task)
+    (printed before after r P t _ (length-take-le c.sleds-sleds.result c.plan-routes.result (omega arith) ∙ sleds) (c.horizon.ensures ∙ ap (λ (k : Task). k.horizon) task)
     (λ k e i l.
-    subst (λ (j : Task). TellsRoute (model_of j (sets s.rule)) s.engine i (get_or c.plan.result i [])) task (c.plan.ensures.each i (omega arith)) t k o.tree_is e l)
+    ap (take (suc K.horizon)) (get_or-take c.sleds-sleds.result c.plan-routes.result i [] (omega arith))
+    ∙ subst (λ (j : Task). TellsRoute (model_of j (sets s.rule)) s.engine i (get_or c.plan-routes.result i [])) task (c.plan-routes.ensures.each i (omega arith)) t k o.tree_is e l)
     c.write_report.ensures t.verdict refl (turns_bounded P limit n) (c.in-Some-outcome.ensures.opened K limit n o)))
