@@ -7,6 +7,7 @@ use job::sled::Sled;
 use standard::JobFleet;
 use standing::standing_places;
 use walk::count::Count;
+use walk::errand::Errand;
 use walk::horizon::Horizon;
 use walk::route::first_route;
 use walk::standing::Standing;
@@ -45,12 +46,15 @@ fn show_route(
     standing: &Standing,
     horizon: Horizon,
 ) -> anyhow::Result<()> {
-    let start = u8::from(sled.start);
-    let goal = u8::from(sled.goal);
-    match first_route(standing, start, goal, horizon) {
+    let errand = Errand {
+        start: u8::from(sled.start),
+        goal: u8::from(sled.goal),
+        horizon,
+    };
+    match first_route(standing, errand) {
         None => println!(rt; "alone {number} no route")?,
         Some(found) => {
-            let count = routes_of(standing, start, goal, horizon);
+            let count = routes_of(standing, errand);
             let cost = found.cost;
             let route = Route(&found.places[..=usize::from(horizon.steps)]);
             println!(rt; "alone {number} cost {cost} routes {count}{route}")?
@@ -60,8 +64,8 @@ fn show_route(
 }
 
 // How many routes of least cost there are.
-fn routes_of(standing: &Standing, start: u8, goal: u8, horizon: Horizon) -> u16 {
+fn routes_of(standing: &Standing, errand: Errand) -> u16 {
     let mut row = [Count { value: 0 }; BOARD_PLACES];
     let mut spare = [Count { value: 0 }; BOARD_PLACES];
-    count_routes(standing, start, goal, horizon, &mut row, &mut spare).unwrap_or(0)
+    count_routes(standing, errand, &mut row, &mut spare).unwrap_or(0)
 }
