@@ -1,5 +1,5 @@
 // Each sled alone: whether it may stand at its start and its goal, its first route of least cost, and how many there are.
-use crate::text::Route;
+use crate::printed::Route;
 use geometry::standing::may_stand;
 use grid::place::BOARD_PLACES;
 use job::job::Job;

@@ -15,7 +15,7 @@ use std::io::{Read, Write};
 
 mod alone;
 mod show;
-mod text;
+mod printed;
 
 fn main(rt: HostRuntime) -> anyhow::Result<()> {
     let mut file = Vec::new(rt.alloc());

@@ -1,5 +1,5 @@
 // A job in lines that a person reads: horizon and limit, the floor, and each sled.
-use crate::text::{At, Drawn, Row};
+use crate::printed::{At, Drawn, Row};
 use grid::floor::Floor;
 use grid::place::BOARD_SIDE;
 use job::job::Job;
