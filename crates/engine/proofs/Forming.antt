@@ -1,11 +1,10 @@
 -- Records stay sound.
-use Rattle.std.proofs.Common.{◌≡◌, ℕ, ◌+◌, ◌<◌, ◌≤◌, true, ltb, ◌≢◌, List, [], ◌∷◌, ◌++◌, length, get_or, set, Some, None, Option, sym, ap, ◌∙◌, subst, ⊎_elim, arith}
-use Rattle.std.proofs.lemmas.Bool.{cases_eq, cases_lt, ltb-true, lt-ltb, and_parts, and_from}
-use Rattle.std.proofs.lemmas.List.{length-set, length_push, get_or-set_same, get_or-set_other, get_or_append_left, get_or_push, append-nil}
+use Rattle.std.proofs.Common.{◌≡◌, ℕ, ◌+◌, ◌<◌, ◌≤◌, true, ltb, List, [], ◌∷◌, ◌++◌, length, set, Some, None, Option, sym, subst, ⊎_elim, arith}
+use Rattle.std.proofs.lemmas.Bool.{cases_lt, ltb-true, lt-ltb, and_parts, and_from}
+use Rattle.std.proofs.lemmas.List.{length_push, get_or_append_left, get_or_push, append-nil}
 use Rattle.std.specs.Option.{option_to_list}
 use Rattle.engine.specs.declared.node.Node.{Node}
 use Rattle.engine.specs.Table.{empty}
-use Rattle.engine.specs.Least.{closed, closed_at}
 use Rattle.engine.specs.WellFormed.{is_in_table, well_formed_constraint, WellFormed, AllWellFormed, MadeWellFormed}
 use Rattle.engine.specs.Forbids.{FitsTable}
 use Rattle.engine.specs.declared.node.Constraint.{Constraint}
@@ -28,16 +27,6 @@ formed_fits k n b e h = fits_from b.constraint (and_parts (ltb n.parent k) (is_i
 
 pub formed_child : (k parent : ℕ) (b : SledConstraint) → parent < k → FitsTable b.constraint → well_formed_constraint k parent (Some b) ≡ true
 formed_child k parent b l s = and_from (ltb parent k) (is_in_table b.constraint) (lt-ltb parent k l) (fits_to b.constraint s)
-
-pub formed_closed : (rows : List Node) (k : ℕ) → k < length rows → AllWellFormed rows → AllWellFormed (closed_at rows k)
-formed_closed rows k l h j m =
-    let n = closed (get_or rows k empty) in
-    let m' : j < length rows = omega (arith, length-set rows k n) in
-    ⊎_elim
-    (λ (e : j ≡ k).
-    let was = subst (λ (i : ℕ). WellFormed j (get_or rows i empty)) e (h j m') in
-    subst (WellFormed j) (sym (ap (λ (i : ℕ). get_or (set rows k n) i empty) e ∙ get_or-set_same rows k n empty l)) was)
-    (λ (e : j ≢ k). subst (WellFormed j) (sym (get_or-set_other rows k j n empty e)) (h j m')) (cases_eq j k)
 
 formed_push : (rows : List Node) (n : Node) → AllWellFormed rows → WellFormed (length rows) n → AllWellFormed (rows ++ n ∷ [])
 formed_push rows n h new j m =

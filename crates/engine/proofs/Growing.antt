@@ -1,6 +1,6 @@
 -- Nodes are made where the theory makes them.
-use Rattle.std.proofs.Common.{◌≡◌, ℕ, zero, suc, ◌<◌, ◌≤◌, true, List, [], ◌∷◌, length, get_or, take, set, is_some, Some, None, Option, sym, refl, ap, ◌∙◌, subst, ap₂, arith}
-use Rattle.std.proofs.lemmas.List.{length-map, length-take-le}
+use Rattle.std.proofs.Common.{◌≡◌, ℕ, zero, suc, ◌<◌, ◌≤◌, true, List, [], ◌∷◌, ◌++◌, length, get_or, take, set, is_some, Some, None, Option, sym, refl, ap, ◌∙◌, subst, ap₂, arith}
+use Rattle.std.proofs.lemmas.List.{length-map, length-take-le, length-append, get_or_append_left}
 use Rattle.std.specs.Option.{option_map}
 use Rattle.tree.specs.Lists.{both_or_none, gather}
 use Rattle.tree.specs.Setting.{Setting}
@@ -16,6 +16,9 @@ use Rattle.engine.specs.Model.{Model, search_of}
 use Rattle.engine.specs.Table.{plan_of, sled_constraint_of, own, LiesIn, Tracks, MadeAs, blank, empty}
 use Rattle.engine.proofs.Plans.{route_of, plan_set}
 use Rattle.engine.proofs.Trails.{constraints_none}
+
+pub front_size : {A : Type 0} (n m : ℕ) (xs : List A) → n ≡ m → m ≤ length xs → length (take n xs) ≡ m
+front_size n m xs same l = length-take-le n xs (omega arith) ∙ same
 
 gather_from : {A : Type 0} (d : A) (f : ℕ → Option A) (n : ℕ) (xs : List A) → length xs ≡ n → ((k : ℕ) → k < n → f k ≡ Some (get_or xs k d)) → gather f n ≡ Some xs
 unfolding gather
@@ -44,12 +47,17 @@ module _ (m : Model) where
   choice_free : (s : ℕ) → P.choose s (constraints.constraints_on s []) ≡ first_choice S s []
   choice_free s = ap (first_choice S s) (constraints_none s)
 
-  pub all_routes : (rs : List (List ℕ)) → S.sleds ≤ length rs → ((s : ℕ) → s < S.sleds → Some (take (suc S.horizon) (get_or rs s [])) ≡ first_choice S s []) → Some (plan_of S rs) ≡ tree.routes_under P []
+  all_routes : (rs : List (List ℕ)) → S.sleds ≤ length rs → ((s : ℕ) → s < S.sleds → Some (take (suc S.horizon) (get_or rs s [])) ≡ first_choice S s []) → Some (plan_of S rs) ≡ tree.routes_under P []
   unfolding tree.routes_under
   all_routes rs l h =
       sym (gather_from [] (λ s. P.choose s (constraints.constraints_on s [])) S.sleds (plan_of S rs)
       (length-map (take S.sleds rs) (take (suc S.horizon)) ∙ length-take-le S.sleds rs l)
       (λ s k. choice_free s ∙ sym (h s k) ∙ ap {B = Option (List ℕ)} Some (sym (route_of S rs s k))))
+
+  -- routes that others stand behind
+  pub front_routes : (rs rest : List (List ℕ)) → length rs ≡ S.sleds → ((s : ℕ) → s < S.sleds → Some (take (suc S.horizon) (get_or rs s [])) ≡ first_choice S s []) → Some (plan_of S (rs ++ rest)) ≡ tree.routes_under P []
+  front_routes rs rest size h =
+      all_routes (rs ++ rest) (omega (arith, length-append rs rest)) (λ s l. ap {B = Option (List ℕ)} (λ (r : List ℕ). Some (take (suc S.horizon) r)) (get_or_append_left rs rest [] s (omega arith)) ∙ h s l)
 
   pub no_routes : (s : ℕ) → s < S.sleds → None ≡ first_choice S s [] → None ≡ tree.routes_under P []
   unfolding tree.routes_under

@@ -1,5 +1,5 @@
 -- The cheapest open record of a table, the one of lowest number among equals.
-use Rattle.std.specs.Prelude.{◌≡◌, ℕ, ◌<◌, ◌≤◌, Bool, true, false, ◌&&◌, List, get_or, Some, None, Option, nat_lt, slice_index_or, slice_set}
+use Rattle.std.specs.Prelude.{◌≡◌, ℕ, ◌<◌, ◌≤◌, Bool, true, false, List, get_or, Some, None, Option, slice_index_or, slice_set}
 use Rattle.engine.specs.declared.node.Node.{Node}
 use Rattle.engine.specs.Table.{empty}
 
@@ -9,11 +9,6 @@ open_at table k = (get_or table k empty).is_open
 
 abbrev pub sum_at : List Node → ℕ → ℕ
 sum_at table k = (get_or table k empty).sum
-
--- whether number n is to be taken in place of the best so far
-abbrev pub is_cheaper : List Node → ℕ → Option ℕ → Bool
-is_cheaper table n None = open_at table n
-is_cheaper table n (Some b) = open_at table n && nat_lt (sum_at table n) (sum_at table b)
 
 -- of the first n records, b is open and of least sum, and those of lower number have more
 pub record IsLeast (table : List Node) (n b : ℕ) : Type 0 where
@@ -26,11 +21,6 @@ pub record IsLeast (table : List Node) (n b : ℕ) : Type 0 where
 abbrev pub CheapestSoFar : List Node → ℕ → Option ℕ → Type 0
 CheapestSoFar table n None = (k : ℕ) → k < n → open_at table k ≡ false
 CheapestSoFar table n (Some b) = IsLeast table n b
-
--- the number is below n, where there is one
-abbrev pub Within : ℕ → Option ℕ → Type 0
-Within n None = Unit {0}
-Within n (Some b) = b < n
 
 -- a record that is closed, and a table in which record k is
 abbrev pub closed : Node → Node

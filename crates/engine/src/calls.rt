@@ -19,8 +19,9 @@ impl Engine {
     pub fn bound(&self) -> Option<u16>
         ensures { (m : Model) (t : tree.Tree) → IsAt m self.now t → result ≡ tree.bound m.setting t }
     {
-        let number = self.table.cheapest()?;
-        Some(self.table.records()[number as usize].sum)
+        self.table
+            .cheapest()
+            .map(|number| self.table.records()[number as usize].sum)
     }
 
     pub fn verdict(&self) -> Status
@@ -33,11 +34,10 @@ impl Engine {
     fn solved(&self) -> Option<&Node>
         ensures { (m : Model) (t : tree.Tree) → IsAt m self.now t → option_map (λ node. plan_of m.setting node.now.routes) result ≡ solution t.nodes t.verdict }
     {
-        if let Verdict::Solved(number) = self.verdict {
-            Some(&self.table.records()[number as usize])
-        } else {
-            None
-        }
+        let Verdict::Solved(number) = self.verdict else {
+            return None;
+        };
+        Some(&self.table.records()[number as usize])
     }
 
     // Where a sled is at an instant in the solved node.
@@ -59,7 +59,7 @@ impl Engine {
         ensures { (t : tree.Tree) → IsAt (P.Problem.model problem.now) self.now t → option_map (take (suc (P.Problem.model problem.now).setting.horizon)) result ≡ route_told (P.Problem.model problem.now).setting t.nodes t.verdict sled }
     {
         let node = self.solved()?;
-        // By hand: of a closure for `then` that gives an array, the proof learns nothing.
+        // By hand: a closure for `then` that gives an array needs clauses of its own, longer than these arms.
         if sled < problem.sleds() {
             Some(node.routes[sled])
         } else {

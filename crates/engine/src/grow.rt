@@ -22,10 +22,8 @@ fn plan_all<P: Problem>(problem: &P) -> Option<[Route; MAX_SLEDS]>
 {
     let forbidden = Forbidden::nothing();
     let mut routes = [[0; MAX_INSTANTS]; MAX_SLEDS];
-    // By number: of what a loop writes through `iter_mut` only the length is known after it.
-    for sled in 0..problem.sleds() {
-        let route = plan_sled(problem, &forbidden, sled)?;
-        routes[sled] = route;
+    for (sled, route) in routes[..problem.sleds()].iter_mut().enumerate() {
+        *route = plan_sled(problem, &forbidden, sled)?;
     }
     Some(routes)
 }

@@ -24,10 +24,9 @@ impl Engine {
     {
         self.open(problem, limit);
         let count = calls.len().min(answers.len());
-        // By number: of what a loop writes through `iter_mut` only the length is known after it.
+        // By number: of what a loop writes through a `zip` with `iter_mut` only the length is known after it.
         for number in 0..count {
-            let call = calls[number];
-            answers[number] = self.answer(problem, call);
+            answers[number] = self.answer(problem, calls[number]);
         }
         count
     }

@@ -1,7 +1,7 @@
 // The table of nodes.
 ghost use Rattle.std.specs.Prelude.{◌≡◌, ◌+◌, ◌<◌, ◌≤◌, [], ◌++◌, length, IfOk, vec_len, vec_capacity};
 ghost use Rattle.std.specs.Option.{option_to_list};
-ghost use Rattle.engine.specs.Least.{is_cheaper, CheapestSoFar, Within, closed_at};
+ghost use Rattle.engine.specs.Least.{CheapestSoFar, closed_at};
 ghost use Rattle.engine.specs.WellFormed.{AllWellFormed, MadeWellFormed};
 
 use super::node::{MAX_NODES, Node};
@@ -67,29 +67,13 @@ impl NodeTable {
         }
     }
 
-    // Whether a node is open and cheaper than the best so far.
-    fn is_cheaper(&self, number: u16, best: Option<u16>) -> bool
-        requires { (number < vec_len self.now.nodes) × (Within (vec_len self.now.nodes) best) }
-        ensures { result ≡ is_cheaper self.now.nodes.items number best }
-    {
-        let node = &self.nodes[number as usize];
-        match best {
-            Some(other) => node.is_open && node.sum < self.nodes[other as usize].sum,
-            None => node.is_open,
-        }
-    }
-
     // The cheapest open node, the one of lowest number among equals.
     pub(crate) fn cheapest(&self) -> Option<u16>
         ensures { CheapestSoFar self.now.nodes.items (vec_len self.now.nodes) result }
     {
-        // By hand: of a chain that ends in `min_by_key` it is told that the sum is least, and not which of equals is given.
-        let mut best = None;
-        for number in 0..self.nodes.len() as u16 {
-            if self.is_cheaper(number, best) {
-                best = Some(number);
-            }
-        }
-        best
+        let nodes = self.records();
+        (0..nodes.len() as u16)
+            .filter(|number| nodes[*number as usize].is_open)
+            .min_by_key(|number| (nodes[*number as usize].sum, *number))
     }
 }

@@ -5,4 +5,4 @@ use Rattle.engine.proofs.grow.plan_all.Given as goal
 abbrev pub invariant-loop-sled : goal.invariant-loop-sled
 invariant-loop-sled g l =
     let S = (g.P.Problem.model l.problem).setting in
-    ((s : ℕ) → s < l.sled → Some (take (suc S.horizon) (get_or l.routes s [])) ≡ first_choice S s []) × (length l.routes ≡ 6)
+    ((s : ℕ) → s < l.sled → Some (take (suc S.horizon) (get_or l.route-items s [])) ≡ first_choice S s []) × (length l.route-items ≡ S.sleds)

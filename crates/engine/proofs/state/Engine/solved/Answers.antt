@@ -8,8 +8,8 @@ use Rattle.engine.specs.WellFormed.{inside}
 use Rattle.engine.proofs.Calling.{told_solution}
 use Rattle.engine.proofs.state.Engine.solved.Goals as goal
 
-pub returns-in-Solved : goal.returns-in-Solved
-returns-in-Solved c m t f =
+pub returns : goal.returns
+returns c m t f =
     let e = c.args.self.now in
     let v = e.table.nodes in
     let k = c.in-Solved.number in
