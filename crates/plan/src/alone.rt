@@ -3,10 +3,10 @@ use crate::text::Route;
 use geometry::standing::may_stand;
 use grid::place::BOARD_PLACES;
 use job::job::Job;
-use job::sled::Sled;
 use standard::JobFleet;
 use standing::standing_places;
 use walk::count::Count;
+use walk::errand::Errand;
 use walk::horizon::Horizon;
 use walk::route::first_route;
 use walk::standing::Standing;
@@ -33,7 +33,12 @@ pub fn show_routes(rt: &HostRuntime, job: &Job, fleet: &JobFleet) -> anyhow::Res
     };
     for (number, sled) in job.sleds().iter().enumerate() {
         let at = standing_places(fleet, number as u8, &floor);
-        show_route(rt, number, sled, &Standing { at }, horizon)?;
+        let errand = Errand {
+            start: u8::from(sled.start),
+            goal: u8::from(sled.goal),
+            horizon,
+        };
+        show_route(rt, number, &Standing { at }, errand)?;
     }
     Ok(())
 }
@@ -41,18 +46,15 @@ pub fn show_routes(rt: &HostRuntime, job: &Job, fleet: &JobFleet) -> anyhow::Res
 fn show_route(
     rt: &HostRuntime,
     number: usize,
-    sled: &Sled,
     standing: &Standing,
-    horizon: Horizon,
+    errand: Errand,
 ) -> anyhow::Result<()> {
-    let start = u8::from(sled.start);
-    let goal = u8::from(sled.goal);
-    match first_route(standing, start, goal, horizon) {
+    match first_route(standing, errand) {
         None => println!(rt; "alone {number} no route")?,
         Some(found) => {
-            let count = routes_of(standing, start, goal, horizon);
+            let count = routes_of(standing, errand);
             let cost = found.cost;
-            let route = Route(&found.places[..=usize::from(horizon.steps)]);
+            let route = Route(&found.places[..=usize::from(errand.horizon.steps)]);
             println!(rt; "alone {number} cost {cost} routes {count}{route}")?
         }
     }
@@ -60,8 +62,8 @@ fn show_route(
 }
 
 // How many routes of least cost there are.
-fn routes_of(standing: &Standing, start: u8, goal: u8, horizon: Horizon) -> u16 {
+fn routes_of(standing: &Standing, errand: Errand) -> u16 {
     let mut row = [Count { value: 0 }; BOARD_PLACES];
     let mut spare = [Count { value: 0 }; BOARD_PLACES];
-    count_routes(standing, start, goal, horizon, &mut row, &mut spare).unwrap_or(0)
+    count_routes(standing, errand, &mut row, &mut spare).unwrap_or(0)
 }
