@@ -4,7 +4,6 @@ pub mod Plans
 pub mod Scanning
 pub mod Cheapest
 pub mod Costs
-mod Made
 pub mod Found
 mod Marks
 pub mod Collecting

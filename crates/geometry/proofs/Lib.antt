@@ -1,3 +1,2 @@
-pub mod Filled
 pub mod Meetings
 pub mod Moments

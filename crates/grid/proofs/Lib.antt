@@ -1,2 +1,3 @@
 pub mod Boards
 pub mod Coordinates
+pub mod Made

@@ -1,4 +1,3 @@
-pub mod Filled
 pub mod Making
 pub mod Past
 pub mod TwoSleds

@@ -7,6 +7,7 @@ use grid::moves::Move;
 use grid::place::BOARD_SIDE;
 
 // The move that leads from one place to another, if they are a step apart.
+// By hand: a search among the moves would work out every neighbour to find one.
 pub(crate) fn move_between(from: u8, to: u8) -> Option<Move>
     ensures { MoveTold from to result }
 {

@@ -46,6 +46,7 @@ fn read_cells(bytes: &[u8]) -> Option<[Cell; 256]>
     ensures { CellsRead bytes.now result }
 {
     let mut cells = [Cell::Pillar; 256];
+    // By index: of what is written through a zip of `iter_mut` a proof knows no cell, so the result stays open.
     for (i, byte) in bytes.iter().enumerate() {
         cells[i] = Cell::try_from(*byte).ok()?;
     }

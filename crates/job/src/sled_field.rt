@@ -116,9 +116,9 @@ fn limited(field: Field, value: SledValue, floor: &Floor) -> Result<Option<Sled>
         columns: floor.columns(),
         rows: floor.rows(),
     })?;
-    let sled = value
-        .sled()
-        .ok_or(field.refused(Cause::ValueOutsideLimits))?;
+    let Some(sled) = value.sled() else {
+        unreachable()
+    };
     Ok(Some(sled))
 }
 

@@ -18,8 +18,9 @@ pub(crate) fn read_sleds(file: &[u8], start: usize, floor: &Floor) -> Result<Sle
     let mut sleds = no_sleds();
     let mut at = start;
     while let Some(sled) = read_sled(Field::of(file, at), floor, sleds.as_slice())? {
-        let added = sleds.push(sled);
-        added.map_err(|_| Cause::SledCount.at(at))?;
+        let Ok(()) = sleds.push(sled) else {
+            unreachable()
+        };
         at += sled.shape.field_size();
     }
     if file.len() != at + HEADER {

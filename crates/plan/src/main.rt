@@ -30,13 +30,7 @@ fn main(rt: HostRuntime) -> anyhow::Result<()> {
 
 // Whether the argument --check is given.
 fn only_checks(rt: &HostRuntime) -> anyhow::Result<bool> {
-    // By hand: the words are handed out as owned strings, and such a list has no `any`.
-    for word in env::args(rt)? {
-        if word.as_str() == "--check" {
-            return Ok(true);
-        }
-    }
-    Ok(false)
+    Ok(env::args(rt)?.any(|word| word.as_str() == "--check"))
 }
 
 // The joint plan: the job is opened, searched to its end, and told.

@@ -1,5 +1,5 @@
 -- A search that is idle or open, and one that goes on by some turns.
-use Rattle.std.proofs.Common.{◌≡◌, ℕ, suc, ◌+◌, ◌≤◌, Some, None, sym, refl, ap, ◌∙◌, subst, arith}
+use Rattle.std.proofs.Common.{◌≡◌, ℕ, suc, ◌+◌, ◌≤◌, Some, sym, refl, ap, ◌∙◌, subst, arith}
 use Rattle.std.proofs.lemmas.Option.{none-some, same_Some}
 use Rattle.split.specs.Situations.{Sets}
 use Rattle.tree.specs.Tree.{Tree, turns_made}
@@ -15,11 +15,7 @@ use Rattle.search.specs.States.{planning, tree_after, OpenedAt, ByState}
 use Rattle.search.proofs.Turns.{turns_more, made_more}
 
 module _ {F R : Type 0} (sets : R → Sets) (s : Search F R) {A : Type 0} {W : (K : Task) (limit n : ℕ) → Type 0} where
-  -- what there is to show where nothing is opened
-  pub when_idle : s.opened ≡ None → A → ByState sets s A W
-  when_idle e a = record { idle = λ _. a; opened = λ K limit n o. absurd (none-some o.holds (sym e ∙ o.is_open)) }
-
-  -- and where something is
+  -- what there is to show of a search where something is opened
   pub when_open : (x : Opened) → s.opened ≡ Some x → ((K : Task) (limit n : ℕ) → (o : OpenedAt sets s K limit n) → o.holds ≡ x → W K limit n) → ByState sets s A W
   when_open x e h = record { idle = λ i. absurd (none-some x (sym i ∙ e)); opened = λ K limit n o. h K limit n o (same_Some o.holds x (sym o.is_open ∙ e)) }
 

@@ -1,6 +1,6 @@
 -- What a job says of each of its sleds.
-use Rattle.std.proofs.Common.{◌≡◌, ℕ, ◌<◌, ◌≤◌, true, false, not, leb, List, length, get_or, take, Ok, Err, Result, sym, subst, arith}
-use Rattle.std.proofs.lemmas.List.{length-take-le, length-map}
+use Rattle.std.proofs.Common.{◌≡◌, ℕ, ◌<◌, ◌≤◌, true, false, not, leb, List, map, length, get_or, take, Ok, Err, Result, sym, ap, subst, ◌∙◌, arith}
+use Rattle.std.proofs.lemmas.List.{length-take, length-take-le, length-map, get_or-map}
 use Rattle.std.proofs.lemmas.Bool.Decides.{nat_tests}
 use Rattle.std.proofs.lemmas.Bool.{and_parts, not-true, leb-true}
 use Rattle.fault.specs.declared.cause.Fault.{Fault}
@@ -10,9 +10,9 @@ use Rattle.fleet.specs.RectangleFleets.{Rectangles, sides_of, all_sides, Added}
 use Rattle.fleet.specs.OutlineFleets.{Outlines, all_rows, Drawn}
 use Rattle.job.specs.declared.job.Job.{Job}
 use Rattle.job.specs.declared.shape.Shape.TheVariants.{Rectangle}
+use Rattle.job.specs.declared.sled.Sled.{Sled}
 use Rattle.job.specs.declared.sled_value.SledValue.{SledValue}
-use Rattle.job.proofs.SledLists.{sleds_few}
-use Rattle.job.specs.Facts.{facts}
+use Rattle.job.specs.Facts.{facts, values_of}
 use Rattle.job.specs.Jobs.{smallest_sled}
 use Rattle.job.specs.Shapes.{shape_ok, sled_ok, outgrown}
 use Rattle.job.specs.Sound.{eight_rows, sound_sled}
@@ -40,7 +40,7 @@ told_limited j n v below is =
     subst Limited (sym is) (limited j.floor.columns j.floor.rows _ (sound_at (facts j).sleds j.floor.columns j.floor.rows false n j.sound below))
 
 pub at_most_six : (j : Job) → length (facts j).sleds ≤ 6
-at_most_six j = sleds_few j.sleds
+at_most_six j = let few = j.sleds.few in simp (length-map, length-take) (omega arith)
 
 -- before the last sled no kind has six
 pub room : (j : Job) (n : ℕ) → n < length (facts j).sleds → (length (all_sides_of (take n (facts j).sleds)) < 6) × (length (all_rows_of (take n (facts j).sleds)) < 6)
@@ -62,3 +62,9 @@ outline_taken rows before after (Ok _) e ok room added refused = cc
 outline_taken rows before after (Err _) e ok room added refused =
     let count = length-map (shapes_of before) (λ o. o.rows) in
     grind (arith, nat_tests, count, added.0, ok)
+
+-- a sled of the walk is the sled of its number
+pub walked : (j : Job) (items : List Sled) (n : ℕ) (v : Sled) → map values_of items ≡ (facts j).sleds → n < length items → v ≡ get_or items n v → (n < length (facts j).sleds) × (values_of v ≡ get_or (facts j).sleds n smallest_sled)
+walked j items n v told below is =
+    let counted = length-map items values_of in
+    (subst (λ (sleds : List SledValue). n < length sleds) told (omega arith), ap values_of is ∙ (sym (get_or-map values_of items n v smallest_sled below) ∙ ap (λ sleds. get_or sleds n smallest_sled) told))

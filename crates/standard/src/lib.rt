@@ -23,10 +23,7 @@ pub fn fleet_of(job: &Job) -> JobFleet
     ensures offsets { (s : ℕ) (x y : ℤ) → fleet_sleds result s x y ≡ job_sleds (facts job.now).sleds s x y }
 {
     let mut fleet = Skirt::new(shapes_of(job));
-    for number in 0..job.sled_count() {
-        let Some(sled) = job.sled(number) else {
-            unreachable()
-        };
+    for (number, sled) in job.sleds().iter().enumerate() {
         let Ok(()) = fleet.set_skirt(number as u8, sled.skirt) else {
             unreachable()
         };

@@ -12,4 +12,3 @@ pub mod Sums
 pub mod Totals
 pub mod Trails
 pub mod Turned
-pub mod Made

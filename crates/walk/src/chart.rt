@@ -7,19 +7,19 @@ use crate::layers::advance;
 use crate::rows::{Layer, begin};
 use crate::weight::{Steps, Weight};
 
-// The row of number k is what a walk of k steps from `start` gives, for each k up to `count`.
+// Writes the row of number k, which is what a walk of k steps from `start` gives, for each k up to `count`.
 pub(crate) fn chart<W: Weight + Copy, S: Steps<W>>(
     steps: &S,
     start: u8,
     count: u8,
-) -> [Layer<W>; MAX_INSTANTS]
+    table: &mut [Layer<W>; MAX_INSTANTS],
+)
     requires { count ≤ 63 }
-    ensures { (k : ℕ) → k ≤ count → Row W.ops (total W.ops (S.step steps.now) k 0 start) (slice_index_or result k []) }
+    ensures { (k : ℕ) → k ≤ count → Row W.ops (total W.ops (S.step steps.now) k 0 start) (slice_index_or table.new k []) }
 {
-    let mut table = [begin(start); MAX_INSTANTS];
+    table[0] = begin(start);
     // By hand: each row is made from the row before it.
     for done in 0..count {
         table[done as usize + 1] = advance(steps, done, &table[done as usize]);
     }
-    table
 }

@@ -15,6 +15,7 @@ use crate::rows::Layer;
 use crate::weight::{Step, Steps};
 use grid::board::neighbour;
 use grid::moves::MOVES;
+use grid::place::BOARD_PLACES;
 
 // A route and its cost. The places stand from instant 0 on, and from the horizon on they are the goal.
 #[derive(Clone, Copy, PartialEq, Debug)]
@@ -74,7 +75,8 @@ pub fn first_route<S: Steps<bool>>(steps: &S, errand: Errand) -> Option<Found>
     let Errand { start, goal, .. } = errand;
     let cost = earliest(steps, errand)?;
     let back = Reversed { steps, last: cost };
-    let table = chart(&back, goal, cost);
+    let mut table = [[false; BOARD_PLACES]; MAX_INSTANTS];
+    chart(&back, goal, cost, &mut table);
     let places = trace(steps, start, goal, cost, &table);
     Some(Found { cost, places })
 }

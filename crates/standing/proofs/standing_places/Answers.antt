@@ -1,7 +1,7 @@
 use Rattle.std.proofs.Common.{◌≡◌, rules, false}
 use Rattle.grid.specs.Places.{position_at}
 use Rattle.geometry.specs.Stands.{may_stand}
-use Rattle.geometry.proofs.Filled.{filled}
+use Rattle.grid.proofs.Made.{filled}
 use Rattle.standing.proofs.standing_places.Goals as goal
 
 pub returns : goal.returns

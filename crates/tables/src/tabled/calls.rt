@@ -1,13 +1,8 @@
 // Making a fleet's tables, and their answers.
-ghost use Rattle.std.specs.Prelude.{◌≡◌, slice_index_or};
+ghost use Rattle.std.specs.Prelude.{◌≡◌};
 ghost use Rattle.tables.specs.TabledFleets.{tabled_sleds};
-ghost use Rattle.tables.specs.Tables.{Says, set_of};
-ghost use Rattle.tables.specs.NoTables.{no_table};
-ghost use Rattle.std.proofs.lemmas.Bool.{and_from, lt-ltb};
-ghost use Rattle.fleet.specs.Scans.{some_offset};
-ghost use Rattle.fleet.specs.ScansLemmas.{offset_is};
-ghost use Rattle.tables.specs.Entries.{each_at};
-ghost use Rattle.std.proofs.Common.{rules, arith};
+ghost use Rattle.tables.specs.TabledTerms.{tabled_terms};
+ghost use Rattle.tables.specs.Tables.{Says};
 
 use crate::table::Table;
 use crate::tabled::Tabled;
@@ -38,15 +33,13 @@ impl Fleet for Tabled {
 
     ghost offsets = { tabled_sleds };
 
-    ghost few = { first_of (Prim.search rules, Prim.grind (arith, Self.row.coded.inj)) };
+    ghost few = { λ t. (tabled_terms t).few };
 
-    ghost only = { first_of (Prim.search rules, Prim.grind (arith, Self.row.coded.inj)) };
+    ghost only = { λ t. (tabled_terms t).only };
 
-    ghost near = { first_of (Prim.search rules, Prim.grind (arith, Self.row.coded.inj)) };
+    ghost near = { λ t. (tabled_terms t).near };
 
-    ghost some = { λ t s below.
-        let (x, y, _, _, hit) = offset_is (set_of 7 (slice_index_or t.tables s no_table).rows) (each_at (λ s. some_offset (set_of 7 (slice_index_or t.tables s no_table).rows)) t.count s below t.some) in
-        (x, y, and_from _ _ (lt-ltb s t.count below) hit) };
+    ghost some = { λ t. (tabled_terms t).some };
 
     fn count(&self) -> u8 {
         self.count

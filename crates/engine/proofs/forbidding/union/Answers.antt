@@ -1,5 +1,5 @@
 use Rattle.std.proofs.Common.{false, ◌||◌, get_or, rules, tests}
-use Rattle.engine.proofs.Made.{made}
+use Rattle.grid.proofs.Made.{made}
 use Rattle.engine.proofs.forbidding.union.Goals as goal
 
 pub returns : goal.returns

@@ -43,15 +43,16 @@ sled_is c = read_is (goal.at.In-Some c).After-read_sled ∙ ap (shown (option_ma
 room : (c : In-Some) → length (told c.loop-sled.sleds) < 6
 room c = omega (arith, (found _ _ _ _ _ _ _ (sled_is c)).room, length-map (told c.loop-sled.sleds) values_of)
 
-pub returns-in_err-map_err : goal.returns-in_err-map_err
-returns-in_err-map_err c =
-    let fits : IsOk c.push-added.result = c.push-added.ensures.room.1 (room (goal.at.returns-in_err-map_err c).In-Some) in
-    absurd (search rules)
+pub unreachable-requires : goal.unreachable-requires
+unreachable-requires c =
+    let fits : IsOk c.push.result = c.push.ensures.room.1 (room (goal.at.unreachable-requires c).In-Some) in
+    let none = rw c.in_default-push.is at fits in
+    search rules
 
 pub loop-sled-smaller : goal.loop-sled-smaller
 loop-sled-smaller c =
     let long = (found _ _ _ _ _ _ _ (sled_is (goal.at.loop-sled-smaller c).In-Some)).long in
-    omega (arith, long, length-drop c.loop-sled.at c.args.file.now, some_size c.in-Some.sled.shape, c.field_size.ensures)
+    omega (arith, long, length-drop c.loop-sled.at c.args.file.now, some_size c.in-Some.sled.shape, c.field_size-at.ensures)
 
 pub loop-sled-preserved : goal.loop-sled-preserved
 loop-sled-preserved c =
@@ -62,13 +63,13 @@ loop-sled-preserved c =
     let sleds = sleds_told c.loop-sled.sleds in
     let long = (found _ _ _ _ _ _ _ (sled_is a)).long in
     let next = step_sled _ _ at (ends_drawn sleds) sleds (drop at file) (sleds_few c.loop-sled.sleds) s (sled_is a) in
-    let fits : IsOk c.push-added.result = c.push-added.ensures.room.1 (room a) in
-    let more = told_more c.loop-sled.sleds c.push-added.new.self c.in-Some.sled (search rules) in
+    let fits : IsOk c.push.result = c.push.ensures.room.1 (room a) in
+    let more = told_more c.loop-sled.sleds c.push.new.self c.in-Some.sled (search rules) in
     let drawn = ap ends_drawn more ∙ drawn_more sleds s in
-    let rest_is : drop (field_size s.shape) (drop at file) ≡ drop (at + c.field_size.result) file =
-    drop-drop (field_size s.shape) at file ∙ ap (λ n. drop (at + n) file) (sym c.field_size.ensures) in (
-      omega (arith, long, length-drop at file, c.field_size.ensures, c.loop-sled.invariant.0),
-      c.loop-sled.invariant.1 ∙ next ∙ (λ i. sleds_of c.args.floor.now.columns c.args.floor.now.rows (at + sym c.field_size.ensures i) (sym drawn i) (sym more i) (rest_is i)),
+    let rest_is : drop (field_size s.shape) (drop at file) ≡ drop (at + c.field_size-at.result) file =
+    drop-drop (field_size s.shape) at file ∙ ap (λ n. drop (at + n) file) (sym c.field_size-at.ensures) in (
+      omega (arith, long, length-drop at file, c.field_size-at.ensures, c.loop-sled.invariant.0),
+      c.loop-sled.invariant.1 ∙ next ∙ (λ i. sleds_of c.args.floor.now.columns c.args.floor.now.rows (at + sym c.field_size-at.ensures i) (sym drawn i) (sym more i) (rest_is i)),
     )
 
 -- at the end, the file's length decides

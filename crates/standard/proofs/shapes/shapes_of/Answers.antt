@@ -1,23 +1,25 @@
-use Rattle.std.proofs.Common.{◌≡◌, true, sym, ◌∙◌, rules}
-use Rattle.fleet.specs.Outlined.{is_drawn}
+use Rattle.std.proofs.Common.{arith}
+use Rattle.std.proofs.lemmas.Grind.{common_steps}
 use Rattle.job.specs.Facts.{values_of}
-use Rattle.standard.proofs.Limits.{told_limited, room, rectangle_taken, outline_taken}
-use Rattle.standard.proofs.Offsets.{is_outline}
-use Rattle.standard.proofs.shapes.shapes_of.Goals.{in-Rectangle, in-Drawing}
+use Rattle.standard.proofs.Limits.{walked, told_limited, room}
 use Rattle.standard.proofs.shapes.shapes_of.Goals as goal
 
-pub unreachable-requires-in_default-added : goal.unreachable-requires-in_default-added
-unreachable-requires-in_default-added c =
-    let (below, is) = c.in-Some.ensures in
-    let sound = (told_limited c.args.job.now c.loop-number.number (values_of c.in-Some.sled) below is).sound in
-    let (for_sides, for_rows) = room c.args.job.now c.loop-number.number below in
-    let kept = c.loop-number.invariant in
-    elim c.match-sled-2.branch [
-      | in-Rectangle w ↦
-          let ok = rw w.in-Rectangle.is at sound in
-          rectangle_taken w.in-Rectangle.width w.in-Rectangle.height c.loop-number.rectangles _ _ _ ok (rw kept.rectangles for_sides) w.add-added.ensures (sym w.added-is ∙ c.in_default-added.is)
-      | in-Drawing w ↦
-          let ok = rw w.in-Drawing.is at sound in
-          let drawn : is_drawn w.in-Drawing.rows ≡ true = is_outline w.in-Drawing.rows (search rules) (λ k below. search rules) ok in
-          outline_taken w.in-Drawing.rows c.loop-number.outlines _ _ _ drawn (rw kept.outlines for_rows) w.add-added-in-Drawing.ensures (sym w.added-is ∙ c.in_default-added.is)
-    ]
+pub add-requires-clause-sound : goal.add-requires-clause-sound
+add-requires-clause-sound c =
+    let (below, is) = walked c.args.job.now c.sleds-sled-items.result.now c.loop-sled.sled-index c.sled-item.result c.sleds-sled-items.ensures c.loop-sled-test.true c.sled-item.is in
+    (told_limited c.args.job.now c.loop-sled.sled-index (values_of c.sled-item.result) below is).sound
+
+pub add-requires-clause-few_rectangles : goal.add-requires-clause-few_rectangles
+add-requires-clause-few_rectangles c =
+    let (below, is) = walked c.args.job.now c.sleds-sled-items.result.now c.loop-sled.sled-index c.sled-item.result c.sleds-sled-items.ensures c.loop-sled-test.true c.sled-item.is in
+    rw c.loop-sled.invariant.rectangles (room c.args.job.now c.loop-sled.sled-index below).0
+
+pub add-requires-clause-few_outlines : goal.add-requires-clause-few_outlines
+add-requires-clause-few_outlines c =
+    let (below, is) = walked c.args.job.now c.sleds-sled-items.result.now c.loop-sled.sled-index c.sled-item.result c.sleds-sled-items.ensures c.loop-sled-test.true c.sled-item.is in
+    rw c.loop-sled.invariant.outlines (room c.args.job.now c.loop-sled.sled-index below).1
+
+pub loop-sled-preserved : goal.loop-sled-preserved
+loop-sled-preserved c =
+    let (below, is) = walked c.args.job.now c.sleds-sled-items.result.now c.loop-sled.sled-index c.sled-item.result c.sleds-sled-items.ensures c.loop-sled-test.true c.sled-item.is in
+    record { rectangles = grind (arith, common_steps, below, is); outlines = grind (arith, common_steps, below, is) }

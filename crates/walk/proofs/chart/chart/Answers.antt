@@ -1,4 +1,4 @@
-use Rattle.std.proofs.Common.{◌≡◌, ◌+◌, ◌<◌, [], length, get_or, set, replicate, sym, refl, subst, ⊎_elim, arith}
+use Rattle.std.proofs.Common.{◌≡◌, ◌+◌, ◌<◌, [], length, get_or, set, sym, subst, ⊎_elim, arith}
 use Rattle.std.proofs.lemmas.List.{length-set, get_or-set_same, get_or-set_other}
 use Rattle.std.proofs.lemmas.Bool.{cases_eq}
 use Rattle.walk.specs.Sequences.{total, Row}
@@ -11,9 +11,11 @@ loop-done-init g c =
     let w = g.S.Steps.step c.args.steps.now in (
       λ k l.
           let none : 0 ≡ k = omega arith in
-          subst (λ i. Row o (total o w i 0 c.args.start) (get_or (replicate 64 c.begin-table.result) i [])) none
-          (row_none o g.met.W.Weight.laws w c.args.start c.begin-table.result c.begin-table.ensures),
-      refl,
+          let within : 0 < length c.args.table.now = omega arith in
+          subst (λ i. Row o (total o w i 0 c.args.start) (get_or (set c.args.table.now 0 c.begin.result) i [])) none
+          (rw (get_or-set_same c.args.table.now 0 c.begin.result [] within)
+          (row_none o g.met.W.Weight.laws w c.args.start c.begin.result c.begin.ensures)),
+      omega (arith, length-set c.args.table.now 0 c.begin.result),
     )
 
 pub loop-done-preserved : goal.loop-done-preserved

@@ -1,6 +1,6 @@
 use Rattle.std.proofs.Common.{rules, tests}
 use Rattle.walk.specs.Workings.{stepped}
-use Rattle.walk.proofs.Made.{made}
+use Rattle.grid.proofs.Made.{made}
 use Rattle.walk.proofs.layers.advance.Goals as goal
 
 pub returns : goal.returns

@@ -22,7 +22,7 @@ trace-places-requires g c =
     let near = found.in_time in
     record {
       in_time = search rules;
-      charted = λ k q l h. c.chart-table.ensures k l q h ∙ total_turned either_both either_both_laws and_comm (g.S.Steps.step c.args.steps.now) c.in_ok-cost.cost k c.args.errand.goal q l;
+      charted = λ k q l h. c.chart.ensures k l q h ∙ total_turned either_both either_both_laws and_comm (g.S.Steps.step c.args.steps.now) c.in_ok-cost.cost k c.args.errand.goal q l;
       reached = (and_parts _ _ found.here).0;
     }
 

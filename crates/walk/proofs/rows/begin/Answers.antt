@@ -1,5 +1,5 @@
 use Rattle.std.proofs.Common.{rules, tests, cond, eqb}
-use Rattle.walk.proofs.Made.{made}
+use Rattle.grid.proofs.Made.{made}
 use Rattle.walk.proofs.rows.begin.Goals as goal
 
 pub returns : goal.returns

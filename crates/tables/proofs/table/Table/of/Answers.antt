@@ -1,6 +1,6 @@
 use Rattle.std.proofs.Common.{[], pos, ◌-ℤ◌, arith, rules}
 use Rattle.std.proofs.lemmas.Int.{ints}
-use Rattle.geometry.proofs.Filled.{filled}
+use Rattle.grid.proofs.Made.{filled}
 use Rattle.tables.specs.Tables.{RowSays}
 use Rattle.tables.proofs.table.Table.of.Goals as goal
 

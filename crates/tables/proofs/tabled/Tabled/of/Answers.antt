@@ -1,5 +1,5 @@
 use Rattle.std.proofs.Common.{ℕ, ◌<◌, sym, arith, rules}
-use Rattle.geometry.proofs.Filled.{filled}
+use Rattle.grid.proofs.Made.{filled}
 use Rattle.tables.specs.declared.table.Table.{Table}
 use Rattle.tables.specs.NoTables.{no_table}
 use Rattle.tables.specs.Tables.{Says}

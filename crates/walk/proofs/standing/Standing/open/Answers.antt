@@ -1,6 +1,6 @@
 use Rattle.std.proofs.Common.{false, rules, tests}
 use Rattle.walk.specs.Examples.{open_floor}
-use Rattle.walk.proofs.Made.{made}
+use Rattle.grid.proofs.Made.{made}
 use Rattle.walk.proofs.standing.Standing.open.Goals as goal
 
 pub returns : goal.returns

@@ -16,3 +16,7 @@ module _ {F B : Type 0} {g : Mut F (ℕ × Unit {0}) B} {f : F} (P : ℕ → B �
 
   pub filled : {ys : List B} → IsFromFnResult g f ys size → (k : ℕ) (d : B) → k < size → P k (get_or ys k d)
   filled {ys} h k d below = from ys size 0 f refl (omega arith) h.each k d (omega arith) (omega arith)
+
+-- where each call gives what h gives, so does each element
+pub made : {F B : Type 0} {g : Mut F (ℕ × Unit {0}) B} {f : F} (h : ℕ → B) → ((i : ℕ) (y : B) (q : F) → Called g f (i, tt) y q → (q ≡ f) × (y ≡ h i)) → {ys : List B} {n : ℕ} → IsFromFnResult g f ys n → (k : ℕ) (d : B) → k < n → get_or ys k d ≡ h k
+made h gives {ys} {n} all k d below = filled (λ i y. y ≡ h i) n (λ i y q _. gives i y q) all k d below
