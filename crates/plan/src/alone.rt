@@ -3,7 +3,6 @@ use crate::printed::Route;
 use geometry::standing::may_stand;
 use grid::place::BOARD_PLACES;
 use job::job::Job;
-use job::sled::Sled;
 use standard::JobFleet;
 use standing::standing_places;
 use walk::count::Count;
@@ -34,7 +33,12 @@ pub fn show_routes(rt: &HostRuntime, job: &Job, fleet: &JobFleet) -> anyhow::Res
     };
     for (number, sled) in job.sleds().iter().enumerate() {
         let at = standing_places(fleet, number as u8, &floor);
-        show_route(rt, number, sled, &Standing { at }, horizon)?;
+        let errand = Errand {
+            start: u8::from(sled.start),
+            goal: u8::from(sled.goal),
+            horizon,
+        };
+        show_route(rt, number, &Standing { at }, errand)?;
     }
     Ok(())
 }
@@ -42,21 +46,15 @@ pub fn show_routes(rt: &HostRuntime, job: &Job, fleet: &JobFleet) -> anyhow::Res
 fn show_route(
     rt: &HostRuntime,
     number: usize,
-    sled: &Sled,
     standing: &Standing,
-    horizon: Horizon,
+    errand: Errand,
 ) -> anyhow::Result<()> {
-    let errand = Errand {
-        start: u8::from(sled.start),
-        goal: u8::from(sled.goal),
-        horizon,
-    };
     match first_route(standing, errand) {
         None => println!(rt; "alone {number} no route")?,
         Some(found) => {
             let count = routes_of(standing, errand);
             let cost = found.cost;
-            let route = Route(&found.places[..=usize::from(horizon.steps)]);
+            let route = Route(&found.places[..=usize::from(errand.horizon.steps)]);
             println!(rt; "alone {number} cost {cost} routes {count}{route}")?
         }
     }

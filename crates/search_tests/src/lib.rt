@@ -3,12 +3,12 @@
 
 #[cfg(test)]
 mod tests {
-    use fault::cause::{Cause, Fault};
+    use fault::cause::Cause;
     use job::job::Job;
     use search::Search;
     use search::verdict::Verdict;
     use split::shared_cell::SharedCell;
-    use standard::{JobFleet, fleet_of};
+    use standard::fleet_of;
     use std::process::Abort;
     use std::test::Fail;
 
@@ -27,13 +27,6 @@ mod tests {
         let mut job = Job::new();
         assert_eq!(rt; job.read(file), Ok(()));
         job
-    }
-
-    fn advanced(search: &mut Search<JobFleet, SharedCell>, count: u32) -> u32 {
-        match search.advance(count) {
-            Ok(made) => made,
-            Err(_) => 0,
-        }
     }
 
     #[test]
@@ -79,7 +72,7 @@ mod tests {
         assert_eq!(rt; once.advance(256), Ok(130));
         let mut made: u32 = 0;
         for count in 1..20 {
-            made = made.saturating_add(advanced(&mut pieces, count));
+            made = made.saturating_add(pieces.advance(count).unwrap_or(0));
         }
         assert_eq!(rt; made, 130);
         assert_eq!(rt; pieces.verdict(), Verdict::Solved);
