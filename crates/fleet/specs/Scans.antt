@@ -37,16 +37,16 @@ abbrev pub TellsWithin : (m : ℕ) (z : ℤ) → (ℤ → Bool → Type 0) → (
 TellsWithin m z answers p = (a : ℤ) → Within m z a → (b : Bool) → answers a b → b ≡ p a
 
 -- a test of offsets answers what p says, within m, across and down, of (x, y)
-abbrev pub TellsBeside : (m : ℕ) (x y : ℤ) → (ℤ → ℤ → Bool → Type 0) → Offsets → Type 0
-TellsBeside m x y answers p = (a b : ℤ) → Within m x a → Within m y b → (r : Bool) → answers a b r → r ≡ p a b
+abbrev pub TellsBeside : (m : ℕ) (x y : ℤ) → (Offset → Bool → Type 0) → Offsets → Type 0
+TellsBeside m x y answers p = (o : Offset) → Within m x o.dx → Within m y o.dy → (r : Bool) → answers o r → r ≡ p o.dx o.dy
 
 -- a test of offsets answers what p says, at all with parts from -7 to 7
-abbrev pub Tells : (ℤ → ℤ → Bool → Type 0) → Offsets → Type 0
-Tells answers p = (x y : ℤ) → Near x → Near y → (b : Bool) → answers x y b → b ≡ p x y
+abbrev pub Tells : (Offset → Bool → Type 0) → Offsets → Type 0
+Tells answers p = (o : Offset) → Near o.dx → Near o.dy → (b : Bool) → answers o b → b ≡ p o.dx o.dy
 
 -- of any set that a test of offsets tells there, r is what in_row says of row y
-unfoldable pub TellsRow : (m : ℕ) (x : ℤ) → (ℤ → ℤ → Bool → Type 0) → (y : ℤ) → (r : Bool) → Type 0
-TellsRow m x answers y r = (p : Offsets) → TellsWithin m x (λ a b. answers a y b) (λ a. p a y) → r ≡ in_row m x p y
+unfoldable pub TellsRow : (m : ℕ) (x : ℤ) → (Offset → Bool → Type 0) → (y : ℤ) → (r : Bool) → Type 0
+TellsRow m x answers y r = (p : Offsets) → TellsWithin m x (λ a b. answers (record { dx = a; dy = y }) b) (λ a. p a y) → r ≡ in_row m x p y
 
 -- from -n to n
 abbrev pub within : ℕ → ℤ → Bool

@@ -5,6 +5,7 @@ use borrow.Author.Differences.{up, down}
 use Rattle.std.proofs.lemmas.Bool.{both_ways, cases_Bool, cases_lt, cond-true, cond-false, cond_both, or_cases, false≢true}
 use Rattle.std.proofs.lemmas.Int.{ints}
 use Rattle.std.proofs.lemmas.Bool.Decides.{Decides-below_or}
+use Rattle.fleet.specs.declared.offset.Offset.{Offset}
 use Rattle.fleet.specs.Offsets.{Offsets, Near}
 use Rattle.fleet.specs.Scans.{any_below, some_within, some_near, in_row, some_offset, first_below, first_near, Within, Tells, TellsBeside, TellsRow}
 
@@ -93,9 +94,9 @@ offset_is p e =
     (x, y, (omega (arith, ints, near_x), omega (arith, ints, near_x)), (omega (arith, ints, near_y), omega (arith, ints, near_y)), hit)
 
 -- a test tells the offsets beside (0, 0) that it tells from -7 to 7
-pub tells_beside : {answers : ℤ → ℤ → Bool → Type 0} (p : Offsets) → Tells answers p → TellsBeside 7 (pos 0) (pos 0) answers p
-tells_beside p tells x y across down = tells x y (omega (arith, ints), omega (arith, ints)) (omega (arith, ints), omega (arith, ints))
+pub tells_beside : {answers : Offset → Bool → Type 0} (p : Offsets) → Tells answers p → TellsBeside 7 (pos 0) (pos 0) answers p
+tells_beside p tells o across down = tells o (omega (arith, ints), omega (arith, ints)) (omega (arith, ints), omega (arith, ints))
 
-pub row_is : {answers : ℤ → ℤ → Bool → Type 0} (m : ℕ) (x y : ℤ) (p : Offsets) → TellsBeside m x y answers p → (b : ℤ) → Within m y b → (r : Bool) → TellsRow m x answers b r → r ≡ in_row m x p b
+pub row_is : {answers : Offset → Bool → Type 0} (m : ℕ) (x y : ℤ) (p : Offsets) → TellsBeside m x y answers p → (b : ℤ) → Within m y b → (r : Bool) → TellsRow m x answers b r → r ≡ in_row m x p b
 unfolding TellsRow
-row_is m x y p tells b down r told = told p (λ a across r' e. tells a b across down r' e)
+row_is m x y p tells b down r told = told p (λ a across r' e. tells (record { dx = a; dy = b }) across down r' e)

@@ -5,6 +5,7 @@ ghost use Rattle.std.proofs.Common.{arith, ⊎_elim, rules};
 ghost use Rattle.std.proofs.lemmas.Bool.{cases_lt};
 ghost use Rattle.std.proofs.lemmas.Bool.Decides.{nat_tests};
 
+use crate::offset::Offset;
 use crate::{Fleet, MAX_SLEDS};
 
 #[derive(Drop)]
@@ -44,15 +45,15 @@ impl<F: Fleet, G: Fleet> Fleet for Convoy<F, G> {
         (self.first.count() + self.second.count()).min(MAX_SLEDS as u8)
     }
 
-    fn has(&self, sled: u8, dx: i8, dy: i8) -> bool {
+    fn has(&self, sled: u8, offset: Offset) -> bool {
         if sled as usize >= MAX_SLEDS {
             return false;
         }
         let front = self.first.count();
         if sled < front {
-            self.first.has(sled, dx, dy)
+            self.first.has(sled, offset)
         } else {
-            self.second.has(sled - front, dx, dy)
+            self.second.has(sled - front, offset)
         }
     }
 }

@@ -4,6 +4,8 @@
 ghost use Rattle.std.specs.Prelude.{◌≡◌, ℕ, ◌≤◌};
 ghost use Rattle.fleet.specs.Offsets.{Sleds, OnlyBelow, AllNear, NoneEmpty};
 
+use crate::offset::Offset;
+
 pub mod convoy;
 pub mod offset;
 pub mod outlines;
@@ -25,8 +27,8 @@ pub trait Fleet {
         ensures { result ≡ size self.now };
 
     // Whether a sled has an offset: no, where there is no such sled.
-    fn has(&self, sled: u8, dx: i8, dy: i8) -> bool
-        ensures { result ≡ offsets self.now sled dx dy };
+    fn has(&self, sled: u8, offset: Offset) -> bool
+        ensures { result ≡ offsets self.now sled offset.dx offset.dy };
 
     ghost few: { (f : Self) → size f ≤ 6 };
 

@@ -3,6 +3,7 @@ ghost use Rattle.std.specs.Prelude.{◌≡◌, ◌≤◌, ◌==◌, true};
 ghost use Rattle.std.specs.List.{list_all};
 ghost use Rattle.fleet.specs.Outlined.{is_drawn, bit_of};
 
+use crate::offset::Offset;
 use crate::shapes::{Shape, Shapes};
 use fault::cause::{Cause, Fault};
 
@@ -43,9 +44,11 @@ impl Shape for Outline {
 
     ghost some = { λ o. some_cell o.rows o.drawn };
 
-    fn has(&self, dx: i8, dy: i8) -> bool {
+    fn has(&self, offset: Offset) -> bool {
         let sides = 0..8;
-        sides.contains(&dx) && sides.contains(&dy) && is_set(self.rows[dy as usize], dx as u32)
+        sides.contains(&offset.dx)
+            && sides.contains(&offset.dy)
+            && is_set(self.rows[offset.dy as usize], offset.dx as u32)
     }
 }
 

@@ -1,6 +1,7 @@
 // Rectangular sleds.
 ghost use Rattle.std.specs.Prelude.{◌≡◌, ◌≤◌};
 
+use crate::offset::Offset;
 use crate::shapes::{Shape, Shapes};
 use fault::cause::{Cause, Fault};
 
@@ -48,8 +49,8 @@ impl Shape for Rectangle {
 
     ghost some = { λ r. (pos 0, pos 0, Prim.grind (arith, nat_tests, r.wide, r.tall)) };
 
-    fn has(&self, dx: i8, dy: i8) -> bool {
-        (0..self.width as i8).contains(&dx) && (0..self.height as i8).contains(&dy)
+    fn has(&self, offset: Offset) -> bool {
+        (0..self.width as i8).contains(&offset.dx) && (0..self.height as i8).contains(&offset.dy)
     }
 }
 

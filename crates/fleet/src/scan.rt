@@ -9,31 +9,31 @@ use crate::offset::Offset;
 pub(crate) const REACH: u8 = 7;
 
 // Whether some offset passes.
-pub fn any_offset<T: Fn(i8, i8) -> bool>(test: T) -> bool
+pub fn any_offset<T: Fn(Offset) -> bool>(test: T) -> bool
     requires { T.IsAlwaysCallable test }
     ensures { (set : Offsets) → Tells (T.post test) set → result ≡ some_offset set }
 {
-    any_beside(test, REACH, 0, 0)
+    any_beside(test, REACH, Offset { dx: 0, dy: 0 })
 }
 
-// Whether some offset within m, across and down, of (x, y) passes.
-pub(crate) fn any_beside<T: Fn(i8, i8) -> bool>(test: T, m: u8, x: i8, y: i8) -> bool
+// Whether some offset within m, across and down, of this one passes.
+pub(crate) fn any_beside<T: Fn(Offset) -> bool>(test: T, m: u8, offset: Offset) -> bool
     requires callable { T.IsAlwaysCallable test }
     requires narrow { m ≤ 7 }
-    requires near { Near x × Near y }
-    ensures { (set : Offsets) → TellsBeside m x y (T.post test) set → result ≡ some_beside m x y set }
+    requires near { Near offset.dx × Near offset.dy }
+    ensures { (set : Offsets) → TellsBeside m offset.dx offset.dy (T.post test) set → result ≡ some_beside m offset.dx offset.dy set }
 {
-    any_within(|b| row_has(&test, b, m, x), m, y)
+    any_within(|dy| row_has(&test, dy, m, offset.dx), m, offset.dy)
 }
 
-// Whether some offset of row y passes, with a column from x - m to x + m.
-fn row_has<T: Fn(i8, i8) -> bool>(test: &T, y: i8, m: u8, x: i8) -> bool
+// Whether some offset of a row passes, with a column from x - m to x + m.
+fn row_has<T: Fn(Offset) -> bool>(test: &T, dy: i8, m: u8, x: i8) -> bool
     requires callable { T.IsAlwaysCallable test.now }
     requires narrow { m ≤ 7 }
     requires near { Near x }
-    ensures { TellsRow m x (T.post test.now) y result }
+    ensures { TellsRow m x (T.post test.now) dy result }
 {
-    any_within(|a| test(a, y), m, x)
+    any_within(|dx| test(Offset { dx, dy }), m, x)
 }
 
 // Whether some number from z - m to z + m passes.
@@ -48,12 +48,12 @@ fn any_within<T: Fn(i8) -> bool>(test: T, m: u8, z: i8) -> bool
 }
 
 // The first offset that passes, by row and then column.
-pub fn first_offset<T: Fn(i8, i8) -> bool>(test: T) -> Option<Offset>
+pub fn first_offset<T: Fn(Offset) -> bool>(test: T) -> Option<Offset>
     requires { T.IsAlwaysCallable test }
     ensures { (set : Offsets) → Tells (T.post test) set → FirstOffset set result }
 {
-    let dy = first_near(|y| row_has(&test, y, REACH, 0))?;
-    let dx = first_near(|x| test(x, dy))?;
+    let dy = first_near(|dy| row_has(&test, dy, REACH, 0))?;
+    let dx = first_near(|dx| test(Offset { dx, dy }))?;
     Some(Offset { dx, dy })
 }
 

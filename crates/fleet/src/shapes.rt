@@ -2,6 +2,7 @@
 ghost use Rattle.std.specs.Prelude.{◌≡◌, true, ℤ};
 ghost use Rattle.fleet.specs.Offsets.{Offsets, NearSet};
 
+use crate::offset::Offset;
 use crate::{Fleet, MAX_SLEDS};
 use fault::cause::{Cause, Fault};
 use few::Few;
@@ -10,8 +11,8 @@ use few::Few;
 pub trait Shape: Copy {
     ghost covers: { Self → Offsets };
 
-    fn has(&self, dx: i8, dy: i8) -> bool
-        ensures { result ≡ covers self.now dx dy };
+    fn has(&self, offset: Offset) -> bool
+        ensures { result ≡ covers self.now offset.dx offset.dy };
 
     ghost near: { (shape : Self) → NearSet (covers shape) };
 
@@ -67,10 +68,10 @@ impl<S: Shape> Fleet for Shapes<S> {
         self.sleds.len() as u8
     }
 
-    fn has(&self, sled: u8, dx: i8, dy: i8) -> bool {
+    fn has(&self, sled: u8, offset: Offset) -> bool {
         // A match: for `is_some_and` the closure would need clauses of its own.
         match self.sleds.as_slice().get(sled as usize) {
-            Some(shape) => shape.has(dx, dy),
+            Some(shape) => shape.has(offset),
             None => false,
         }
     }

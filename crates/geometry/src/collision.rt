@@ -22,8 +22,8 @@ fn apart(pair: Pair, of_first: Offset, of_second: Offset) -> Apart
     ensures across { result.x ≡ (pos pair.u.column +ℤ of_first.dx) -ℤ (pos pair.v.column +ℤ of_second.dx) }
     ensures down { result.y ≡ (pos pair.u.row +ℤ of_first.dy) -ℤ (pos pair.v.row +ℤ of_second.dy) }
 {
-    let first = cell_by(pair.u, of_first.dx, of_first.dy);
-    let second = cell_by(pair.v, of_second.dx, of_second.dy);
+    let first = cell_by(pair.u, of_first);
+    let second = cell_by(pair.v, of_second);
     Apart {
         x: first.column - second.column,
         y: first.row - second.row,
@@ -31,19 +31,25 @@ fn apart(pair: Pair, of_first: Offset, of_second: Offset) -> Apart
 }
 
 // Whether an offset is one of the second sled and its cell overlaps with one of the first sled's during the step.
-fn is_struck<F: Fleet>(fleet: &F, pair: Pair, of_first: Offset, step: Step, dx: i8, dy: i8) -> bool
+fn is_struck<F: Fleet>(
+    fleet: &F,
+    pair: Pair,
+    step: Step,
+    of_first: Offset,
+    of_second: Offset,
+) -> bool
     requires { Near of_first.dx × Near of_first.dy }
-    ensures { result ≡ struck (pos pair.u.column +ℤ of_first.dx) (pos pair.u.row +ℤ of_first.dy) (F.Fleet.offsets fleet.now pair.j) (position_of pair.v) step.dx step.dy dx dy }
+    ensures { result ≡ struck (pos pair.u.column +ℤ of_first.dx) (pos pair.u.row +ℤ of_first.dy) (F.Fleet.offsets fleet.now pair.j) (position_of pair.v) step.dx step.dy of_second.dx of_second.dy }
 {
-    fleet.has(pair.j, dx, dy) && apart(pair, of_first, Offset { dx, dy }).overlaps(step)
+    fleet.has(pair.j, of_second) && apart(pair, of_first, of_second).overlaps(step)
 }
 
 // Whether an offset is one of the first sled and its cell overlaps with one of the second during the step.
-fn strikes<F: Fleet>(fleet: &F, pair: Pair, step: Step, dx: i8, dy: i8) -> bool
-    ensures { result ≡ striking (F.Fleet.offsets fleet.now pair.i) (position_of pair.u) (F.Fleet.offsets fleet.now pair.j) (position_of pair.v) step.dx step.dy dx dy }
+fn strikes<F: Fleet>(fleet: &F, pair: Pair, step: Step, offset: Offset) -> bool
+    ensures { result ≡ striking (F.Fleet.offsets fleet.now pair.i) (position_of pair.u) (F.Fleet.offsets fleet.now pair.j) (position_of pair.v) step.dx step.dy offset.dx offset.dy }
 {
-    fleet.has(pair.i, dx, dy)
-        && any_offset(|x, y| is_struck(fleet, pair, Offset { dx, dy }, step, x, y))
+    fleet.has(pair.i, offset)
+        && any_offset(|of_second| is_struck(fleet, pair, step, offset, of_second))
 }
 
 // Whether the first sled of a pair, moving by a, and the second, moving by b, collide.
@@ -55,5 +61,5 @@ pub fn collides<F: Fleet>(fleet: &F, pair: Pair, a: Move, b: Move) -> bool
     ensures end { (w z : Position) → Leads (position_of pair.u) a w → Leads (position_of pair.v) b z → share_cell (F.Fleet.offsets fleet.now pair.i) w (F.Fleet.offsets fleet.now pair.j) z ≡ true → result ≡ true }
 {
     let step = relative(a, b);
-    any_offset(|dx, dy| strikes(fleet, pair, step, dx, dy))
+    any_offset(|offset| strikes(fleet, pair, step, offset))
 }

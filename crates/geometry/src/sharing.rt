@@ -7,18 +7,19 @@ ghost use Rattle.geometry.specs.Shares.{covers, shared, share_cell, Sharing, Fir
 use crate::pair::Pair;
 use crate::spot::Spot;
 use fleet::Fleet;
+use fleet::offset::Offset;
 use fleet::scan::{any_offset, first_offset};
 use grid::place::Place;
 
 // The cell of a sled at a place by one of its offsets.
-pub(crate) fn cell_by(place: Place, dx: i8, dy: i8) -> Spot
-    requires { Near dx × Near dy }
-    ensures column { result.column ≡ pos place.column +ℤ dx }
-    ensures row { result.row ≡ pos place.row +ℤ dy }
+pub(crate) fn cell_by(place: Place, offset: Offset) -> Spot
+    requires { Near offset.dx × Near offset.dy }
+    ensures column { result.column ≡ pos place.column +ℤ offset.dx }
+    ensures row { result.row ≡ pos place.row +ℤ offset.dy }
 {
     Spot {
-        column: place.column as i8 + dx,
-        row: place.row as i8 + dy,
+        column: place.column as i8 + offset.dx,
+        row: place.row as i8 + offset.dy,
     }
 }
 
@@ -32,14 +33,14 @@ pub fn covers_cell<F: Fleet>(fleet: &F, sled: u8, place: Place, cell: Spot) -> b
     let Some(dy) = cell.row.checked_sub(place.row as i8) else {
         return false;
     };
-    fleet.has(sled, dx, dy)
+    fleet.has(sled, Offset { dx, dy })
 }
 
 // Whether an offset is one of the first sled and falls on a cell of the second.
-fn is_shared<F: Fleet>(fleet: &F, pair: Pair, dx: i8, dy: i8) -> bool
-    ensures { result ≡ shared (F.Fleet.offsets fleet.now pair.i) (position_of pair.u) (F.Fleet.offsets fleet.now pair.j) (position_of pair.v) dx dy }
+fn is_shared<F: Fleet>(fleet: &F, pair: Pair, offset: Offset) -> bool
+    ensures { result ≡ shared (F.Fleet.offsets fleet.now pair.i) (position_of pair.u) (F.Fleet.offsets fleet.now pair.j) (position_of pair.v) offset.dx offset.dy }
 {
-    fleet.has(pair.i, dx, dy) && covers_cell(fleet, pair.j, pair.v, cell_by(pair.u, dx, dy))
+    fleet.has(pair.i, offset) && covers_cell(fleet, pair.j, pair.v, cell_by(pair.u, offset))
 }
 
 // Whether the two sleds of a pair share a cell.
@@ -48,13 +49,13 @@ pub fn shares_cell<F: Fleet>(fleet: &F, pair: Pair) -> bool
     ensures meaning { Decides result (Sharing (F.Fleet.offsets fleet.now pair.i) (position_of pair.u) (F.Fleet.offsets fleet.now pair.j) (position_of pair.v)) }
     ensures either { result ≡ share_cell (F.Fleet.offsets fleet.now pair.j) (position_of pair.v) (F.Fleet.offsets fleet.now pair.i) (position_of pair.u) }
 {
-    any_offset(|dx, dy| is_shared(fleet, pair, dx, dy))
+    any_offset(|offset| is_shared(fleet, pair, offset))
 }
 
 // The first cell, by row and then column, that the two sleds of a pair share.
 pub fn first_shared_cell<F: Fleet>(fleet: &F, pair: Pair) -> Option<Spot>
     ensures { FirstSharedTold (F.Fleet.offsets fleet.now pair.i) (position_of pair.u) (F.Fleet.offsets fleet.now pair.j) (position_of pair.v) result }
 {
-    let offset = first_offset(|dx, dy| is_shared(fleet, pair, dx, dy))?;
-    Some(cell_by(pair.u, offset.dx, offset.dy))
+    let offset = first_offset(|offset| is_shared(fleet, pair, offset))?;
+    Some(cell_by(pair.u, offset))
 }

@@ -5,19 +5,20 @@ ghost use Rattle.geometry.specs.Stands.{blocked, may_stand, Standing};
 
 use crate::sharing::cell_by;
 use fleet::Fleet;
+use fleet::offset::Offset;
 use fleet::scan::any_offset;
 use grid::cell::Cell;
 use grid::floor::Floor;
 use grid::place::Place;
 
 // Whether an offset is one of a sled at a place and falls on no free cell.
-fn is_blocked<F: Fleet>(fleet: &F, sled: u8, floor: &Floor, place: Place, dx: i8, dy: i8) -> bool
-    ensures { result ≡ blocked (F.Fleet.offsets fleet.now sled) floor.now (position_of place) dx dy }
+fn is_blocked<F: Fleet>(fleet: &F, sled: u8, floor: &Floor, place: Place, offset: Offset) -> bool
+    ensures { result ≡ blocked (F.Fleet.offsets fleet.now sled) floor.now (position_of place) offset.dx offset.dy }
 {
-    if !fleet.has(sled, dx, dy) {
+    if !fleet.has(sled, offset) {
         return false;
     }
-    let cell = cell_by(place, dx, dy);
+    let cell = cell_by(place, offset);
     floor.cell(cell.column, cell.row) != Cell::Free
 }
 
@@ -27,5 +28,5 @@ pub fn may_stand<F: Fleet>(fleet: &F, sled: u8, floor: &Floor, place: Place) -> 
     ensures value { result ≡ may_stand (F.Fleet.offsets fleet.now sled) floor.now (position_of place) }
     ensures meaning { Decides result (Standing (F.Fleet.offsets fleet.now sled) floor.now (position_of place)) }
 {
-    floor.has(place) && !any_offset(|dx, dy| is_blocked(fleet, sled, floor, place, dx, dy))
+    floor.has(place) && !any_offset(|offset| is_blocked(fleet, sled, floor, place, offset))
 }

@@ -35,6 +35,7 @@ pub fn fleet_of(job: &Job) -> JobFleet
 mod tests {
     use super::*;
     use fleet::Fleet;
+    use fleet::offset::Offset;
     use std::test::Fail;
 
     // One step, one node, one free cell; a rectangle 2 by 1 with a skirt of 1, and a drawing of two cells.
@@ -58,10 +59,10 @@ mod tests {
     ];
 
     // What the fleet answers is what it means.
-    fn answer(fleet: &JobFleet, sled: u8, dx: i8, dy: i8) -> bool
-        ensures { result ≡ fleet_sleds fleet.now sled dx dy }
+    fn answer(fleet: &JobFleet, sled: u8, offset: Offset) -> bool
+        ensures { result ≡ fleet_sleds fleet.now sled offset.dx offset.dy }
     {
-        fleet.has(sled, dx, dy)
+        fleet.has(sled, offset)
     }
 
     #[test]
@@ -71,7 +72,7 @@ mod tests {
         let fleet = fleet_of(&job);
         assert_eq!(rt; fleet.count(), 2);
         for (sled, dx, dy, has) in ASKED {
-            assert_eq!(rt; answer(&fleet, sled, dx, dy), has);
+            assert_eq!(rt; answer(&fleet, sled, Offset { dx, dy }), has);
         }
         Ok(())
     }

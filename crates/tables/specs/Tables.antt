@@ -1,5 +1,6 @@
 -- Sets of offsets as tables of yes and no.
 use Rattle.std.specs.Prelude.{◌≡◌, ℕ, zero, suc, ◌+◌, ◌*◌, ◌<◌, ◌≤◌, Bool, true, false, ◌&&◌, List, [], ℤ, pos, ◌+ℤ◌, ◌-ℤ◌, slice_index_or, unsigned_abs}
+use Rattle.fleet.specs.declared.offset.Offset.{Offset}
 use Rattle.fleet.specs.Offsets.{Offsets}
 use Rattle.fleet.specs.Scans.{within, TellsWithin}
 
@@ -23,9 +24,9 @@ Says n set rows =
     → slice_index_or (slice_index_or rows b []) a false ≡ set (pos a -ℤ pos n) (pos b -ℤ pos n)
 
 -- a row says of part y what a test of offsets answers, for parts across from -n to n
-unfoldable pub RowSays : (n : ℕ) → (ℤ → ℤ → Bool → Type 0) → (y : ℤ) → List Bool → Type 0
+unfoldable pub RowSays : (n : ℕ) → (Offset → Bool → Type 0) → (y : ℤ) → List Bool → Type 0
 RowSays n answers y row =
-    (set : Offsets) → TellsWithin n (pos 0) (λ x r. answers x y r) (λ x. set x y)
+    (set : Offsets) → TellsWithin n (pos 0) (λ x r. answers (record { dx = x; dy = y }) r) (λ x. set x y)
     → (a : ℕ) → a < side n → slice_index_or row a false ≡ set (pos a -ℤ pos n) y
 
 -- each number below n passes

@@ -4,6 +4,7 @@ ghost use Rattle.fleet.specs.Offsets.{Offsets};
 ghost use Rattle.fleet.specs.Scans.{TellsBeside};
 ghost use Rattle.tables.specs.Tables.{IsSquare, set_of, Says, RowSays};
 
+use fleet::offset::Offset;
 use fleet::scan::is_within;
 use std::array;
 
@@ -16,7 +17,7 @@ pub(crate) struct Table<const REACH: u8, const SIDE: usize> {
 
 impl<const REACH: u8, const SIDE: usize> Table<REACH, SIDE> {
     // The table of the offsets that pass.
-    pub(crate) fn of<T: Fn(i8, i8) -> bool>(test: T) -> Table<REACH, SIDE>
+    pub(crate) fn of<T: Fn(Offset) -> bool>(test: T) -> Table<REACH, SIDE>
         requires square { IsSquare REACH SIDE }
         requires callable { T.IsAlwaysCallable test }
         ensures { (set : Offsets) → TellsBeside REACH (pos 0) (pos 0) (T.post test) set → Says REACH set result.rows }
@@ -32,7 +33,7 @@ impl<const REACH: u8, const SIDE: usize> Table<REACH, SIDE> {
     }
 
     // The row of a part down.
-    fn row<T: Fn(i8, i8) -> bool>(test: &T, dy: i8) -> [bool; SIDE]
+    fn row<T: Fn(Offset) -> bool>(test: &T, dy: i8) -> [bool; SIDE]
         requires square { IsSquare REACH SIDE }
         requires callable { T.IsAlwaysCallable test.now }
         ensures { RowSays REACH (T.post test.now) dy result }
@@ -40,19 +41,24 @@ impl<const REACH: u8, const SIDE: usize> Table<REACH, SIDE> {
         array::from_fn(
             |column| -> bool
                 requires { (REACH ≤ 14) × (column ≤ 2 * REACH) × T.IsAlwaysCallable test.now }
-                ensures { T.post test.entry.now (pos column -ℤ pos REACH) dy result }
-            { test(column as i8 - REACH as i8, dy) },
+                ensures { T.post test.entry.now (record { dx = pos column -ℤ pos REACH; dy = dy }) result }
+            {
+                test(Offset {
+                    dx: column as i8 - REACH as i8,
+                    dy,
+                })
+            },
         )
     }
 
     // Whether an offset is in the set.
-    pub(crate) fn has(&self, x: i8, y: i8) -> bool
-        ensures { result ≡ set_of REACH self.now.rows x y }
+    pub(crate) fn has(&self, offset: Offset) -> bool
+        ensures { result ≡ set_of REACH self.now.rows offset.dx offset.dy }
     {
-        if !is_within(REACH, x) || !is_within(REACH, y) {
+        if !is_within(REACH, offset.dx) || !is_within(REACH, offset.dy) {
             return false;
         }
-        let (column, row) = (x + REACH as i8, y + REACH as i8);
+        let (column, row) = (offset.dx + REACH as i8, offset.dy + REACH as i8);
         self.rows[row as usize][column as usize]
     }
 }

@@ -2,6 +2,7 @@
 use fault::cause::{Cause, Fault};
 use fleet::Fleet;
 use fleet::convoy::Convoy;
+use fleet::offset::Offset;
 use fleet::outlines::Outlines;
 use fleet::rectangles::Rectangles;
 use fleet::skirt::Skirt;
@@ -26,21 +27,28 @@ fn two_sleds() -> Result<Piled, Fault> {
     Ok(fleet)
 }
 
+// Whether a sled has the offset of so many cells across and down.
+fn has<F: Fleet>(fleet: &F, sled: u8, dx: i8, dy: i8) -> bool {
+    fleet.has(sled, Offset { dx, dy })
+}
+
 #[test]
 fn a_pile_of_fleets_is_a_fleet(rt: HostRuntime) -> Result<(), Fail> {
     let fleet = two_sleds()?;
     assert!(rt; fleet.count() == 2);
-    assert!(rt; fleet.has(0, -1, -1) && fleet.has(0, 2, 1) && !fleet.has(0, 3, 1));
-    assert!(rt; fleet.has(1, 0, 0) && !fleet.has(1, 1, 0));
+    assert!(rt; has(&fleet, 0, -1, -1) && has(&fleet, 0, 2, 1) && !has(&fleet, 0, 3, 1));
+    assert!(rt; has(&fleet, 1, 0, 0) && !has(&fleet, 1, 1, 0));
     Ok(())
 }
 
 #[test]
 fn odd_numbers_get_the_answer_no(rt: HostRuntime) -> Result<(), Fail> {
     let fleet = two_sleds()?;
-    assert!(rt; !fleet.has(255, 0, 0) && !fleet.has(0, -128, 0) && !fleet.has(0, 127, 127));
+    assert!(rt; !has(&fleet, 255, 0, 0) && !has(&fleet, 0, -128, 0) && !has(&fleet, 0, 127, 127));
     let tabled = Tabled::of(&fleet);
-    assert!(rt; !tabled.has(255, 0, 0) && !tabled.has(0, -128, 0) && !tabled.has(0, 127, 127));
+    assert!(rt;
+        !has(&tabled, 255, 0, 0) && !has(&tabled, 0, -128, 0) && !has(&tabled, 0, 127, 127)
+    );
     Ok(())
 }
 
@@ -48,7 +56,7 @@ fn odd_numbers_get_the_answer_no(rt: HostRuntime) -> Result<(), Fail> {
 fn refusals_leave_the_fleet(rt: HostRuntime) -> Result<(), Fail> {
     let mut fleet = two_sleds()?;
     assert!(rt; fleet.set_skirt(255, 0).is_err() && fleet.set_skirt(0, 4).is_err());
-    assert!(rt; fleet.has(0, 2, 1) && !fleet.has(0, 3, 1));
+    assert!(rt; has(&fleet, 0, 2, 1) && !has(&fleet, 0, 3, 1));
     Ok(())
 }
 

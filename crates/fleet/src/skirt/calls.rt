@@ -5,6 +5,7 @@ ghost use Rattle.fleet.specs.Skirts.{skirt_told, within_more};
 ghost use Rattle.std.proofs.Common.{rules, arith};
 
 use crate::Fleet;
+use crate::offset::Offset;
 use crate::scan::{REACH, any_beside, any_offset, is_within};
 use crate::skirt::{Margin, Skirt};
 use fault::cause::{Cause, Fault};
@@ -32,8 +33,9 @@ impl<F: Fleet> Skirt<F> {
             return Err(Cause::ValueOutsideLimits.at(0));
         }
         let limit = REACH - cells;
-        let reaches_past = |dx, dy| {
-            self.inner.has(sled, dx, dy) && !(is_within(limit, dx) && is_within(limit, dy))
+        let reaches_past = |offset: Offset| {
+            self.inner.has(sled, offset)
+                && !(is_within(limit, offset.dx) && is_within(limit, offset.dy))
         };
         if any_offset(reaches_past) {
             return Err(Cause::OffsetTooFar.at(sled as usize));
@@ -43,14 +45,14 @@ impl<F: Fleet> Skirt<F> {
     }
 
     // Whether a skirt of so many cells has the offset.
-    fn skirt_has(&self, sled: u8, cells: u8, dx: i8, dy: i8) -> bool
+    fn skirt_has(&self, sled: u8, cells: u8, offset: Offset) -> bool
         requires { cells ≤ 3 }
-        ensures { result ≡ skirt cells (F.Fleet.offsets self.now.inner sled) dx dy }
+        ensures { result ≡ skirt cells (F.Fleet.offsets self.now.inner sled) offset.dx offset.dy }
     {
-        if !is_within(REACH, dx) || !is_within(REACH, dy) {
+        if !is_within(REACH, offset.dx) || !is_within(REACH, offset.dy) {
             return false;
         }
-        any_beside(|x, y| self.inner.has(sled, x, y), cells, dx, dy)
+        any_beside(|near| self.inner.has(sled, near), cells, offset)
     }
 }
 
@@ -81,12 +83,12 @@ impl<F: Fleet> Fleet for Skirt<F> {
         self.inner.count()
     }
 
-    fn has(&self, sled: u8, dx: i8, dy: i8) -> bool
-        ensures value { result ≡ skirt (margin_of self.now sled) (F.Fleet.offsets self.now.inner sled) dx dy }
-        ensures meaning { Decides result (Skirted (margin_of self.now sled) (F.Fleet.offsets self.now.inner sled) dx dy) }
+    fn has(&self, sled: u8, offset: Offset) -> bool
+        ensures value { result ≡ skirt (margin_of self.now sled) (F.Fleet.offsets self.now.inner sled) offset.dx offset.dy }
+        ensures meaning { Decides result (Skirted (margin_of self.now sled) (F.Fleet.offsets self.now.inner sled) offset.dx offset.dy) }
     {
         self.margins
             .get(sled as usize)
-            .is_some_and(|margin| self.skirt_has(sled, margin.cells, dx, dy))
+            .is_some_and(|margin| self.skirt_has(sled, margin.cells, offset))
     }
 }

@@ -19,23 +19,23 @@ use grid::moves::Move;
 use grid::place::Place;
 
 // Whether sled j has an offset of another sled, moved by a difference.
-fn has_moved<F: Fleet>(fleet: &F, j: u8, offset: Offset, x: i8, y: i8) -> bool
-    ensures { result ≡ F.Fleet.offsets fleet.now j (offset.dx +ℤ x) (offset.dy +ℤ y) }
+fn has_moved<F: Fleet>(fleet: &F, j: u8, offset: Offset, difference: Offset) -> bool
+    ensures { result ≡ F.Fleet.offsets fleet.now j (offset.dx +ℤ difference.dx) (offset.dy +ℤ difference.dy) }
 {
-    let Some(dx) = offset.dx.checked_add(x) else {
+    let Some(dx) = offset.dx.checked_add(difference.dx) else {
         return false;
     };
-    let Some(dy) = offset.dy.checked_add(y) else {
+    let Some(dy) = offset.dy.checked_add(difference.dy) else {
         return false;
     };
-    fleet.has(j, dx, dy)
+    fleet.has(j, Offset { dx, dy })
 }
 
 // Whether sled j has some offset of sled i, moved by a difference.
-fn are_apart<F: Fleet>(fleet: &F, i: u8, j: u8, x: i8, y: i8) -> bool
-    ensures { result ≡ differences (F.Fleet.offsets fleet.now i) (F.Fleet.offsets fleet.now j) x y }
+fn are_apart<F: Fleet>(fleet: &F, i: u8, j: u8, difference: Offset) -> bool
+    ensures { result ≡ differences (F.Fleet.offsets fleet.now i) (F.Fleet.offsets fleet.now j) difference.dx difference.dy }
 {
-    any_offset(|dx, dy| fleet.has(i, dx, dy) && has_moved(fleet, j, Offset { dx, dy }, x, y))
+    any_offset(|offset| fleet.has(i, offset) && has_moved(fleet, j, offset, difference))
 }
 
 impl Differences {
@@ -45,7 +45,7 @@ impl Differences {
         ensures meaning { (x y : ℤ) → Decides (difference_set result x y) (Difference (F.Fleet.offsets fleet.now i) (F.Fleet.offsets fleet.now j) x y) }
     {
         Differences {
-            table: Table::of(|x, y| are_apart(fleet, i, j, x, y)),
+            table: Table::of(|difference| are_apart(fleet, i, j, difference)),
         }
     }
 
@@ -53,7 +53,10 @@ impl Differences {
     pub fn shares_cell(&self, u: Place, v: Place) -> bool
         ensures { (first second : Offsets) → DifferencesOf first second self.now → result ≡ share_cell first (position_of u) second (position_of v) }
     {
-        self.table.has(less(u.column, v.column), less(u.row, v.row))
+        self.table.has(Offset {
+            dx: less(u.column, v.column),
+            dy: less(u.row, v.row),
+        })
     }
 
     // Whether sled i, moving by a from u, and sled j, moving by b from v, collide.
@@ -70,7 +73,9 @@ impl Differences {
     fn row_has(&self, columns: &[i8], y: i8) -> bool
         ensures { result ≡ list_any (λ x. difference_set self.now x y) columns.now }
     {
-        columns.iter().any(|x| self.table.has(*x, y))
+        columns
+            .iter()
+            .any(|x| self.table.has(Offset { dx: *x, dy: y }))
     }
 }
 

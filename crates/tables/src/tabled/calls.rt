@@ -7,12 +7,13 @@ ghost use Rattle.tables.specs.Tables.{Says};
 use crate::table::Table;
 use crate::tabled::Tabled;
 use fleet::Fleet;
+use fleet::offset::Offset;
 use std::array;
 
 fn table_of<F: Fleet>(fleet: &F, sled: u8) -> Table<7, 15>
     ensures { Says 7 (F.Fleet.offsets fleet.now sled) result.rows }
 {
-    Table::of(|dx, dy| fleet.has(sled, dx, dy))
+    Table::of(|offset| fleet.has(sled, offset))
 }
 
 impl Tabled {
@@ -45,10 +46,10 @@ impl Fleet for Tabled {
         self.count
     }
 
-    fn has(&self, sled: u8, dx: i8, dy: i8) -> bool {
+    fn has(&self, sled: u8, offset: Offset) -> bool {
         if sled >= self.count {
             return false;
         }
-        self.tables[sled as usize].has(dx, dy)
+        self.tables[sled as usize].has(offset)
     }
 }

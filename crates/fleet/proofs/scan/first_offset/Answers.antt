@@ -18,7 +18,7 @@ returns-in_err-dx g c = λ set tells.
     let near_y : Near c.in_ok-dy.dy = subst Near (sym row.1) near in
     let fits : SFits w8 c.in_ok-dy.dy = search rules in
     let y = to_z-of_z w8 c.in_ok-dy.dy fits in
-    let none = c.in_err-dx.ensures (λ x. set x c.in_ok-dy.dy) (λ x across r e. tells x c.in_ok-dy.dy (omega (arith, ints), omega (arith, ints)) near_y r (search rules)) in
+    let none = c.in_err-dx.ensures (λ x. set x c.in_ok-dy.dy) (λ x across r e. tells (record { dx = x; dy = c.in_ok-dy.dy }) (omega (arith, ints), omega (arith, ints)) near_y r (search rules)) in
     absurd (both_ways _ (rw row.1 at none) hit)
 
 pub returns : goal.returns
@@ -31,6 +31,6 @@ returns g c = λ set tells.
     let fits_x : SFits w8 c.in_ok-dx.dx = search rules in
     let y = to_z-of_z w8 c.in_ok-dy.dy fits_y in
     let x = to_z-of_z w8 c.in_ok-dx.dx fits_x in
-    let column = c.in_ok-dx.ensures (λ x. set x c.in_ok-dy.dy) (λ x across r e. tells x c.in_ok-dy.dy (omega (arith, ints), omega (arith, ints)) near_y r (search rules)) in
+    let column = c.in_ok-dx.ensures (λ x. set x c.in_ok-dy.dy) (λ x across r e. tells (record { dx = x; dy = c.in_ok-dy.dy }) (omega (arith, ints), omega (arith, ints)) near_y r (search rules)) in
     let near_x : Near c.in_ok-dx.dx = subst Near (sym column.1) (near_first (λ x. set x c.in_ok-dy.dy) column.0).1 in
     rw (x, y) (row.0, rw row.1 at column.1, row.1, near_x, near_y)

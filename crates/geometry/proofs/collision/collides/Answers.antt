@@ -17,7 +17,7 @@ returns g c =
     let v = position_of p.v in
     let a = c.args.a in
     let b = c.args.b in
-    let told = c.any_offset.ensures (striking first u second v c.relative-step.result.dx c.relative-step.result.dy) (λ x y near_x near_y r e. search rules) in
+    let told = c.any_offset.ensures (striking first u second v c.relative-step.result.dx c.relative-step.result.dy) (λ o near_x near_y r e. search rules) in
     let value = rw (c.relative-step.ensures.across, c.relative-step.ensures.down) at told in
     record {
       value = value;

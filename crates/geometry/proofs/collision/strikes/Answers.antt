@@ -1,5 +1,4 @@
-use Rattle.std.proofs.Common.{◌+ℤ◌, pos, sym, arith, w8, rules}
-use Rattle.std.proofs.lemmas.Int.{to_z-of_z}
+use Rattle.std.proofs.Common.{◌+ℤ◌, pos, sym, arith, rules}
 use Rattle.std.proofs.lemmas.Bool.Decides.{nat_tests}
 use Rattle.grid.specs.Places.{position_of}
 use Rattle.geometry.specs.Collisions.{struck}
@@ -13,8 +12,5 @@ any_offset-requires g c =
 pub returns-then-has : goal.returns-then-has
 returns-then-has g c =
     let p = c.args.pair in
-    let x = to_z-of_z w8 c.args.dx c.ranges.dx in
-    let y = to_z-of_z w8 c.args.dy c.ranges.dy in
-    let has = rw (x, y) at c.if-has.ensures in
-    let told = c.any_offset.ensures (struck (pos p.u.column +ℤ c.args.dx) (pos p.u.row +ℤ c.args.dy) (g.F.Fleet.offsets c.args.fleet.now p.j) (position_of p.v) c.args.step.dx c.args.step.dy) (λ a b near_a near_b r e. search rules) in
-    grind (arith, nat_tests, told, has)
+    let told = c.any_offset.ensures (struck (pos p.u.column +ℤ c.args.offset.dx) (pos p.u.row +ℤ c.args.offset.dy) (g.F.Fleet.offsets c.args.fleet.now p.j) (position_of p.v) c.args.step.dx c.args.step.dy) (λ o near_x near_y r e. search rules) in
+    grind (arith, nat_tests, told, c.if-has.ensures)

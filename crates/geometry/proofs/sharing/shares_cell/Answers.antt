@@ -12,7 +12,7 @@ returns g c =
     let first = g.F.Fleet.offsets f p.i in
     let second = g.F.Fleet.offsets f p.j in
     let near = g.met.F.Fleet.near f in
-    let value = c.any_offset.ensures (shared first (position_of p.u) second (position_of p.v)) (λ x y near_x near_y r e. search rules) in
+    let value = c.any_offset.ensures (shared first (position_of p.u) second (position_of p.v)) (λ o near_x near_y r e. search rules) in
     record {
       value = value;
       meaning = Decides-at _ _ value (share_told first (position_of p.u) second (position_of p.v) (near p.i));

@@ -10,6 +10,6 @@ returns-then-has g c =
     let f = c.args.fleet.now in
     let offsets = g.F.Fleet.offsets f c.args.sled in
     let u = position_of c.args.place in
-    let told = c.any_offset.ensures (blocked offsets c.args.floor.now u) (λ x y near_x near_y r e. search rules) in
+    let told = c.any_offset.ensures (blocked offsets c.args.floor.now u) (λ o near_x near_y r e. search rules) in
     let value : not c.any_offset.result ≡ may_stand offsets c.args.floor.now u = grind (arith, nat_tests, told, c.if-has.ensures) in
     record { value = value; meaning = Decides-at _ _ value (stand_told offsets c.args.floor.now u (g.met.F.Fleet.near f c.args.sled)) }

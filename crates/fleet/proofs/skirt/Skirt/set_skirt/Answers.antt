@@ -16,11 +16,11 @@ returns-then-sled-count g c =
 pub returns-then-any_offset : goal.returns-then-any_offset
 returns-then-any_offset g c =
     let f = c.args.self.now.inner in
-    let cut = c.if-any_offset.ensures (reaches_past c.args.cells (g.F.Fleet.offsets f c.args.sled)) (λ x y near_x near_y r e. search rules) in
+    let cut = c.if-any_offset.ensures (reaches_past c.args.cells (g.F.Fleet.offsets f c.args.sled)) (λ o near_x near_y r e. search rules) in
     record { outcome = (grind (arith, nat_tests, cut), refl); meaning = λ h. cut_told c.args.cells (g.F.Fleet.offsets f c.args.sled) h (g.met.F.Fleet.near f c.args.sled) }
 
 pub returns : goal.returns
 returns g c =
     let f = c.args.self.now.inner in
-    let uncut = c.if-any_offset.ensures (reaches_past c.args.cells (g.F.Fleet.offsets f c.args.sled)) (λ x y near_x near_y r e. search rules) in
+    let uncut = c.if-any_offset.ensures (reaches_past c.args.cells (g.F.Fleet.offsets f c.args.sled)) (λ o near_x near_y r e. search rules) in
     record { outcome = (grind (arith, nat_tests, uncut), (map-set _ c.args.self.now.margins c.args.sled _, refl)); meaning = λ h. cut_told c.args.cells (g.F.Fleet.offsets f c.args.sled) h (g.met.F.Fleet.near f c.args.sled) }

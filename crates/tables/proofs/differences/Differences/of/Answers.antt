@@ -12,7 +12,7 @@ returns g c =
     let second = g.F.Fleet.offsets f c.args.j in
     let near = g.met.F.Fleet.near f c.args.i in
     let near' = g.met.F.Fleet.near f c.args.j in
-    let says = c.of.ensures (differences first second) (λ x y across down r e. search rules) in
+    let says = c.of.ensures (differences first second) (λ o across down r e. search rules) in
     let same = says_set 14 (differences first second) c.of.result.rows says (differences_near first second near near') in
     record {
       table = record { first_near = near; second_near = near'; set = λ i x y. same x y i };

@@ -1,5 +1,4 @@
-use Rattle.std.proofs.Common.{◌≡◌, Bool, false, Option, None, Some, MatchOption, sym, ◌∙◌, ap, ⊎_elim, arith, rules, w8}
-use Rattle.std.proofs.lemmas.Int.{to_z-of_z}
+use Rattle.std.proofs.Common.{◌≡◌, Bool, false, Option, None, Some, MatchOption, sym, ◌∙◌, ap, ⊎_elim, arith, rules}
 use Rattle.std.proofs.lemmas.Bool.{cases_Bool}
 use Rattle.std.proofs.lemmas.Bool.Decides.{Decides-at}
 use Rattle.fleet.specs.SkirtFleets.{skirt, margin_of, no_margin}
@@ -15,10 +14,8 @@ pub returns : goal.returns
 returns g c =
     let k = c.args.self.now in
     let below = g.F.Fleet.offsets k.inner c.args.sled in
-    let has = skirt (margin_of k c.args.sled) below c.args.dx c.args.dy in
-    let told = skirt_told (margin_of k c.args.sled) below c.args.dx c.args.dy in
-    let x = to_z-of_z w8 c.args.dx c.ranges.dx in
-    let y = to_z-of_z w8 c.args.dy c.ranges.dy in
+    let has = skirt (margin_of k c.args.sled) below c.args.offset.dx c.args.offset.dy in
+    let told = skirt_told (margin_of k c.args.sled) below c.args.offset.dx c.args.offset.dy in
     let value : c.is_some_and.result ≡ has =
     answered c.get.result _ has c.get.ensures.lookup.3 c.is_some_and.ensures
     (λ past.
@@ -27,6 +24,6 @@ returns g c =
     (λ e. e)
     (cases_Bool has))
     (λ m at p.
-    let here : c.is_some_and.result ≡ skirt m.now.cells below c.args.dx c.args.dy = search rules in
-    here ∙ ap (λ n. skirt n.cells below c.args.dx c.args.dy) (at.1 no_margin)) in
+    let here : c.is_some_and.result ≡ skirt m.now.cells below c.args.offset.dx c.args.offset.dy = search rules in
+    here ∙ ap (λ n. skirt n.cells below c.args.offset.dx c.args.offset.dy) (at.1 no_margin)) in
     record { value = value; meaning = Decides-at _ _ value told }
