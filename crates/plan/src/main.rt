@@ -14,8 +14,8 @@ use std::env;
 use std::io::{Read, Write};
 
 mod alone;
-mod show;
 mod printed;
+mod show;
 
 fn main(rt: HostRuntime) -> anyhow::Result<()> {
     let mut file = Vec::new(rt.alloc());
