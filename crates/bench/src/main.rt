@@ -3,12 +3,11 @@
 
 use std::time::Instant;
 use std::{env, io};
-use walk::count::Count;
 use walk::errand::Errand;
 use walk::horizon::Horizon;
 use walk::route::first_route;
 use walk::standing::Standing;
-use walk::tally::count_routes;
+use walk::tally::tally;
 
 const REPEATS: u32 = 1000;
 
@@ -19,9 +18,7 @@ fn cost(sled: &Standing, errand: Errand) -> u64 {
 }
 
 fn count(sled: &Standing, errand: Errand) -> u64 {
-    let mut row = [Count { value: 0 }; 256];
-    let mut spare = [Count { value: 0 }; 256];
-    count_routes(sled, errand, &mut row, &mut spare).map_or(0, u64::from)
+    u64::from(tally(sled, errand))
 }
 
 // From the top left to a corner and back, again and again: the sum of the figures.

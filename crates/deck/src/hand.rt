@@ -104,6 +104,7 @@ impl Deck {
         }
     }
 
+    // As a recall does: a function for both would take the call and the answer as closures, which is longer.
     fn finish_slip(&mut self, slip: Slip) -> Step
         ensures { TellsFinish self.old self.new slip result.answer result.hand }
     {

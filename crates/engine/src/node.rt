@@ -34,7 +34,8 @@ pub(crate) struct SledConstraint {
     pub(crate) constraint: Constraint,
 }
 
-// One record of the table. The root alone has no constraint.
+// One record of the table. The root alone has no constraint. A parent is told by its number: both children share it, and memory for all
+// nodes is taken once.
 #[derive(Clone, Copy)]
 pub(crate) struct Node {
     pub(crate) parent: u16,
@@ -44,7 +45,7 @@ pub(crate) struct Node {
     pub(crate) is_open: bool,
 }
 
-// How far the tree is; a solved one has the number of the node that solves it.
+// How far the tree is; a solved one has the number of the node that solves it, which is not told.
 #[derive(Clone, Copy)]
 pub(crate) enum Verdict {
     Working,

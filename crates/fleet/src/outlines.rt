@@ -80,6 +80,7 @@ fn is_set(row: u8, bit: u32) -> bool
     (row >> (7 - bit)) % 2 == 1
 }
 
+// A job asks the same of a drawing: neither crate knows the other, and the line is shorter than a third for both.
 fn is_blank(rows: &[u8; 8]) -> bool
     ensures { result ≡ list_all (λ row. row == 0) rows.now }
 {

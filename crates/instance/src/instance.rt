@@ -13,6 +13,7 @@ use walk::horizon::Horizon;
 mod answers;
 mod calls;
 
+// What is worked out of sleds stands in lists beside each other: each is made by a function of its own, and asked for by itself.
 #[derive(Clone, Copy)]
 pub struct Instance {
     horizon: Horizon,

@@ -1,4 +1,5 @@
 // The values of a sled's field, before and after they are found to be within their limits.
+// Apart from a sled: one type over what a place is would be named with it in every clause on the format.
 ghost use Rattle.std.specs.Prelude.{◌≡◌};
 ghost use Rattle.job.specs.Jobs.{SledOf};
 ghost use Rattle.job.specs.Shapes.{sled_ok};

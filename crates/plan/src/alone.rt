@@ -1,16 +1,14 @@
 // Each sled alone: whether it may stand at its start and its goal, its first route of least cost, and how many there are.
 use crate::printed::Route;
 use geometry::standing::may_stand;
-use grid::place::BOARD_PLACES;
 use job::job::Job;
 use standard::JobFleet;
 use standing::standing_places;
-use walk::count::Count;
 use walk::errand::Errand;
 use walk::horizon::Horizon;
 use walk::route::first_route;
 use walk::standing::Standing;
-use walk::tally::count_routes;
+use walk::tally::tally;
 
 pub fn show_standing(rt: &HostRuntime, job: &Job, fleet: &JobFleet) -> anyhow::Result<()> {
     let floor = job.floor();
@@ -52,18 +50,11 @@ fn show_route(
     match first_route(standing, errand) {
         None => println!(rt; "alone {number} no route")?,
         Some(found) => {
-            let count = routes_of(standing, errand);
+            let count = tally(standing, errand);
             let cost = found.cost;
             let route = Route(&found.places[..=usize::from(errand.horizon.steps)]);
             println!(rt; "alone {number} cost {cost} routes {count}{route}")?
         }
     }
     Ok(())
-}
-
-// How many routes of least cost there are.
-fn routes_of(standing: &Standing, errand: Errand) -> u16 {
-    let mut row = [Count { value: 0 }; BOARD_PLACES];
-    let mut spare = [Count { value: 0 }; BOARD_PLACES];
-    count_routes(standing, errand, &mut row, &mut spare).unwrap_or(0)
 }

@@ -5,7 +5,8 @@ ghost use Rattle.search.specs.Words.{verdict_of};
 
 use engine::call::Status;
 
-// Nothing is opened; it goes on; it has found the plan; there is no plan to find; there is no room for more nodes.
+// The words in which a search is told, side by side and not as an option of the tree's four: nothing is opened; it goes on; it has
+// found the plan; there is no plan to find; there is no room for more nodes.
 #[derive(Clone, Copy, PartialEq, Debug)]
 pub enum Verdict {
     Idle,

@@ -10,6 +10,7 @@ use fleet::MAX_SLEDS;
 mod calls;
 
 // A table for each sled that a fleet may have; none of the fleet's is without an offset.
+// The count stands beside them: all tables are made at once, by their numbers, which a list of few could not be.
 #[derive(Clone, Copy)]
 pub struct Tabled {
     count: u8,

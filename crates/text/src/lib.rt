@@ -72,6 +72,7 @@ fn digit_count(n: usize) -> usize
 }
 
 // Writes the digits of a number where there is room for them.
+// By hand: of `write!` into lent memory it is told what stands there only where all of it had room.
 fn put_digits(out: &mut [u8], at: usize, n: usize) -> usize
     requires { at + length (decimal n) ≤ length out.old }
     ensures end { result ≡ at + length (decimal n) }

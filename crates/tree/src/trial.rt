@@ -7,7 +7,7 @@ pub enum Floor {
     Square,
 }
 
-// A verdict, with the number of the node that solves it.
+// A verdict, with the number of the node that solves it. What a trial says stands apart from what a search comes to.
 #[derive(Clone, Copy)]
 pub enum Outcome {
     Working,
@@ -17,7 +17,7 @@ pub enum Outcome {
 }
 
 // A search of one or two sleds, a number of turns, and what is told then: the bound, the verdict, and where both sleds are at
-// instant 1 if it is solved.
+// instant 1 if it is solved. Starts and goals stand apart, as a setting asks for the one or the other by a sled's number.
 #[derive(Clone, Copy)]
 pub struct Trial {
     pub floor: Floor,

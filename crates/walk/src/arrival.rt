@@ -31,6 +31,7 @@ pub(crate) fn earliest<S: Steps<bool>>(steps: &S, errand: Errand) -> Option<u8>
         horizon,
     } = errand;
     let mut row = begin(start);
+    // By hand: each row is made from the row before it.
     for instant in 0..horizon.steps {
         if row[goal as usize] && can_wait(steps, goal, instant, horizon.steps) {
             return Some(instant);

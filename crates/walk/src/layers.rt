@@ -48,6 +48,7 @@ pub(crate) fn walk_row<W: Weight + Copy, S: Steps<W>>(steps: &S, start: u8, coun
     ensures { Row W.ops (total W.ops (S.step steps.now) count 0 start) result }
 {
     let mut row = begin(start);
+    // By hand: each row is made from the row before it.
     for instant in 0..count {
         row = advance(steps, instant, &row);
     }

@@ -13,8 +13,8 @@ use crate::weight::{Steps, Weight};
 use fault::cause::{Cause, Fault};
 use grid::place::BOARD_PLACES;
 
-// Counts the routes of least cost, at most 65,535.
-fn tally<S: Steps<bool>>(steps: &S, errand: Errand) -> u16
+// The number of routes of least cost, at most 65,535.
+pub fn tally<S: Steps<bool>>(steps: &S, errand: Errand) -> u16
     ensures { result ≡ min 65535 (length (cheapest_routes (S.step steps.now) errand.horizon.steps errand.start errand.goal)) }
 {
     let Some(cost) = earliest(steps, errand) else {
