@@ -1,4 +1,4 @@
-// An offset of a sled: how far across, to the right, and how far down.
+// An offset of a sled, or the difference of two: how far across, to the right, and how far down.
 
 #[derive(Clone, Copy, PartialEq, Debug)]
 pub struct Offset {
