@@ -1,4 +1,5 @@
-// Where sleds are, and how they go, in the routes of a node.
+// Where sleds are, and how they go, in the routes of a node. Of a sled and an instant past these there is no place, so both are asked to
+// be within.
 ghost use Rattle.std.specs.Prelude.{◌≡◌, ◌+◌, ◌<◌};
 ghost use Rattle.engine.specs.Table.{at_of};
 

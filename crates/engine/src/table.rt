@@ -46,7 +46,7 @@ impl NodeTable {
         self.nodes.as_slice()
     }
 
-    // Closes a node.
+    // Closes a node. That a number is one of the table's is asked where it is used: a type could not say it, as the table grows.
     pub(crate) fn close(&mut self, number: u16)
         requires { number < vec_len self.old.nodes }
         ensures rows { self.new.nodes.items ≡ closed_at self.old.nodes.items number }

@@ -10,7 +10,7 @@ use std::alloc::AllocError;
 // Make so many turns; tell the bound; tell the verdict; tell the place of a sled at an instant.
 pub use engine::call::Call;
 
-// What each call answers.
+// What each call answers. The engine answers each in another kind: one enum for both would have four parameters.
 #[derive(Clone, Copy)]
 pub enum Answer {
     Advanced(Result<u32, Fault>),
