@@ -1,5 +1,5 @@
 // One call, made with the slip in hand or with none.
-ghost use Rattle.std.specs.Prelude.{◌≡◌, true, Some, None, Err};
+ghost use Rattle.std.specs.Prelude.{◌≡◌, true, Some, None, Ok, Err, MatchResult};
 ghost use Rattle.deck.specs.Decks.{fits};
 ghost use Rattle.deck.specs.Workings.{InHand, Answers, TellsOnward, TellsFinish, TellsRecall};
 
@@ -104,31 +104,31 @@ impl Deck {
         }
     }
 
-    // As a recall does: a function for both would take the call and the answer as closures, which is longer.
     fn finish_slip(&mut self, slip: Slip) -> Step
         ensures { TellsFinish self.old self.new slip result.answer result.hand }
     {
-        let numbers = slip.numbers();
-        match self.finish(slip) {
-            Ok(()) => Step {
-                answer: Some(Ok(Done::Finished(numbers))),
-                hand: None,
-            },
-            Err(returned) => Step::from(returned),
-        }
+        let done = Done::Finished(slip.numbers());
+        taken(self.finish(slip), done)
     }
 
     fn recall_slip(&mut self, slip: Slip) -> Step
         ensures { TellsRecall self.old self.new slip result.answer result.hand }
     {
-        let numbers = slip.numbers();
-        match self.recall(slip) {
-            Ok(()) => Step {
-                answer: Some(Ok(Done::Recalled(numbers))),
-                hand: None,
-            },
-            Err(returned) => Step::from(returned),
-        }
+        let done = Done::Recalled(slip.numbers());
+        taken(self.recall(slip), done)
+    }
+}
+
+// What comes of handing in a slip: it was taken, or it is handed back.
+fn taken(handed: Result<(), Returned>, done: Done) -> Step
+    ensures { MatchResult handed (λ _. (result.answer ≡ Some (Ok done)) × (result.hand ≡ None)) (λ r. (result.answer ≡ Some (Err r.fault)) × (result.hand ≡ Some r.slip)) }
+{
+    match handed {
+        Ok(()) => Step {
+            answer: Some(Ok(done)),
+            hand: None,
+        },
+        Err(returned) => Step::from(returned),
     }
 }
 

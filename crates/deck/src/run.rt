@@ -43,7 +43,7 @@ impl Deck {
         ensures { Makes R.SplitRule.sets search.now calls.now self.old self.new answers.old answers.new result }
     {
         let mut hand = None;
-        // By index: of what is written through `iter_mut` a proof keeps the length alone.
+        // By index: of what a loop writes through a `zip` with `iter_mut` a proof knows the length alone.
         for (i, call) in calls.iter().enumerate() {
             Step {
                 answer: answers[i],

@@ -13,7 +13,7 @@ pub struct SlipNumbers {
     pub last: u8,
 }
 
-// One run of a deck. It is not `Drop`, and its field is the crate's own, so only `finish` and `recall` can take it.
+// One run of a deck. It is not `Drop`, and its field is the crate's own, so only `onward`, `finish` and `recall` take it.
 pub struct Slip {
     pub(crate) numbers: SlipNumbers,
 }
@@ -50,7 +50,7 @@ impl Slip {
         })
     }
 
-    // The end of a slip: only `finish` and `recall` call it.
+    // The end of a slip, where its run ends or where none can be.
     pub(crate) fn spend(self) {
         let Slip { numbers: _ } = self;
     }
