@@ -59,7 +59,7 @@ class Function:
         text = "\n".join(lines)
         self.where = f"{source.path}:{number}"
         self.name = re.search(r"fn (\w+)", text).group(1)
-        head = text[text.index("("):]
+        head = text[text.index("(", text.index(self.name)):]
         depth, end = 0, 0
         for end, letter in enumerate(head):
             depth += (letter == "(") - (letter == ")")

@@ -2,7 +2,7 @@
 // The kit's `ArrayVec` is such a list too, but it is not `Copy`, so a struct that holds one can't be.
 #![tactic(auto)]
 
-ghost use Rattle.std.specs.Prelude.{◌≡◌, ◌<◌, ◌≤◌, ◌↔◌, [], ◌∷◌, ◌++◌, length, IsOk, OnOk, OnErr};
+ghost use Rattle.std.specs.Prelude.{◌≡◌, ◌<◌, ◌≤◌, ◌↔◌, [], ◌∷◌, ◌++◌, length, IsOk, OnOk, OnErr, ⊤};
 
 use std::alloc::AllocError;
 
@@ -15,6 +15,10 @@ pub struct Few<T, const N: usize> {
 
 // By hand: over ghost fields there is no derive for items of any type.
 impl<T: Copy, const N: usize> Clone for Few<T, N> {
+    ghost is_clone = { λ few copy. copy ≡ few };
+
+    ghost is_infallible = { λ _. ⊤ };
+
     fn clone(&self) -> Result<Self, AllocError> {
         Ok(*self)
     }

@@ -12,7 +12,7 @@ use Rattle.fleet.specs.Scans.{any_below, some_within, some_near, in_row, some_of
 own : (b : Bool) → Decides b (b ≡ true)
 own b = (λ e. e, λ e. e)
 
-any_told : (p : ℕ → Bool) (n : ℕ) → Decides (any_below p n) ((k : ℕ) × (k < n) × (p k ≡ true))
+pub any_told : (p : ℕ → Bool) (n : ℕ) → Decides (any_below p n) ((k : ℕ) × (k < n) × (p k ≡ true))
 any_told p n = Decides-below_or p (λ k. p k ≡ true) (any_below p) (λ k. own (p k)) refl (λ _. refl) n
 
 -- some_within finds exactly the numbers within m of z
@@ -35,7 +35,7 @@ pub within_none : (m : ℕ) (z : ℤ) (p : ℤ → Bool) → ((k : ℕ) → k < 
 unfolding some_within
 within_none m z p none = none_below (λ k. p (pos k -ℤ pos m +ℤ z)) (2 * m + 1) none
 
-first_told : (p : ℕ → Bool) (n : ℕ) → any_below p n ≡ true → (first_below p n < n) × (p (first_below p n) ≡ true)
+pub first_told : (p : ℕ → Bool) (n : ℕ) → any_below p n ≡ true → (first_below p n < n) × (p (first_below p n) ≡ true)
 first_told p zero h = absurd (false≢true h)
 first_told p (suc n) h =
     ⊎_elim
@@ -43,7 +43,7 @@ first_told p (suc n) h =
     (λ e. rw (cond-false (any_below p n) (first_below p n) n e) (omega arith, ⊎_elim (λ here. here) (λ f. absurd (both_ways _ e f)) (or_cases (p n) (any_below p n) h)))
     (cases_Bool (any_below p n))
 
-first_is : (p : ℕ → Bool) (n k : ℕ) → k < n → p k ≡ true → ((j : ℕ) → j < k → p j ≡ false) → first_below p n ≡ k
+pub first_is : (p : ℕ → Bool) (n k : ℕ) → k < n → p k ≡ true → ((j : ℕ) → j < k → p j ≡ false) → first_below p n ≡ k
 first_is p zero k below hit none = absurd (omega arith)
 first_is p (suc n) k below hit none =
     ⊎_elim

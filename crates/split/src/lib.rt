@@ -20,7 +20,7 @@ pub mod single;
 pub trait SplitRule {
     ghost sets: { Self → Sets };
 
-    // Whether w is in the set of a side.
+    // Whether w is in the set of a side. The four things asked stand by themselves: who asks holds them apart, and a rule takes them apart.
     fn contains<F: Fleet>(&self, fleet: &F, pair: Pair, side: Side, w: Place) -> bool
         ensures { result ≡ sets self.now (situation (F.Fleet.size fleet.now) (F.Fleet.offsets fleet.now) pair) side (position_of w) };
 

@@ -13,13 +13,22 @@ pub struct Text<'a> {
 }
 
 impl<'a> Text<'a> {
+    // A text that goes on from a position of the buffer, if there is one.
+    pub fn going_on(out: &'a mut [u8], at: Option<usize>) -> Text<'a>
+        ensures same_buffer { result.out.ghost_name ≡ out.entry.ghost_name }
+        ensures buffer { result.out.now ≡ out.old }
+        ensures position { result.at ≡ at }
+    {
+        Text { out, at }
+    }
+
     // Nothing is written yet.
     pub fn new(out: &'a mut [u8]) -> Text<'a>
         ensures same_buffer { result.out.ghost_name ≡ out.entry.ghost_name }
         ensures buffer { result.out.now ≡ out.old }
         ensures front { result.at ≡ Some 0 }
     {
-        Text { out, at: Some(0) }
+        Text::going_on(out, Some(0))
     }
 
     // The length of the text, if there was room for all of it.

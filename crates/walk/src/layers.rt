@@ -56,6 +56,7 @@ pub(crate) fn walk_row<W: Weight + Copy, S: Steps<W>>(steps: &S, start: u8, coun
 }
 
 // Walks `count` steps from `start`, and writes into the first 256 entries of two rows what each place then has; shorter rows are refused.
+// Both rows are the caller's, and are promised to hold it.
 pub fn walk<W: Weight + Copy, S: Steps<W>>(
     steps: &S,
     start: u8,

@@ -24,7 +24,8 @@ pub fn tally<S: Steps<bool>>(steps: &S, errand: Errand) -> u16
     row[errand.goal as usize].value
 }
 
-// The number of routes of least cost, at most 65,535. The first 256 entries of two rows then hold 0; shorter rows are refused.
+// The number of routes of least cost, at most 65,535. The first 256 entries of two rows, which are the caller's, then hold 0;
+// shorter rows are refused.
 pub fn count_routes<S: Steps<bool>>(
     steps: &S,
     errand: Errand,

@@ -29,7 +29,7 @@ pub struct Step {
     pub to: u8,
 }
 
-// What each step weighs. A trait and not a closure: contracts speak of its meaning, which a closure has none of.
+// What each step weighs. A trait and not a closure: with one, each clause of the walk would begin with a step that the closure tells.
 pub trait Steps<W> {
     ghost step: { Self → ℕ → ℕ → ℕ → W };
 
