@@ -2,14 +2,14 @@
 ghost use Rattle.std.specs.Prelude.{◌≡◌};
 ghost use Rattle.fault.specs.Causes.{number_of, layer_of, layer_number, fault_at};
 
-// The part of the planner that a cause belongs to.
+// The part of the planner that a cause belongs to, with its number.
 #[derive(Clone, Copy, PartialEq, Debug)]
 pub enum Layer {
-    Bytes,
-    Job,
-    Standing,
-    Search,
-    Deck,
+    Bytes = 1,
+    Job = 2,
+    Standing = 3,
+    Search = 4,
+    Deck = 5,
 }
 
 // Every cause, with its number.
@@ -49,13 +49,7 @@ impl From<Layer> for u8 {
     ghost from_gives = { λ layer number. number ≡ layer_number layer };
 
     fn from(layer: Layer) -> u8 {
-        match layer {
-            Layer::Bytes => 1,
-            Layer::Job => 2,
-            Layer::Standing => 3,
-            Layer::Search => 4,
-            Layer::Deck => 5,
-        }
+        layer as u8
     }
 }
 

@@ -11,57 +11,45 @@ pub mod trial;
 pub use table::trials_come_out;
 
 // A route costs what it should, and the choice by enumeration is the first route of least cost.
-pub fn routes_are_chosen() -> u8
+pub fn routes_are_chosen()
     ensures cost { CostIsLeast }
     ensures first { ChoiceIsFirst }
     ensures settled { ChoiceIsSettled }
     ensures terms { PlannerKeepsTerms }
-{
-    0
-}
+{}
 
 // The first conflict comes before all others.
-pub fn conflicts_are_first() -> u8
+pub fn conflicts_are_first()
     ensures first { ConflictIsFirst }
     ensures settled { ConflictIsSettled }
-{
-    0
-}
+{}
 
 // The cheapest open node, and how nodes hang together.
-pub fn nodes_are_of_the_tree() -> u8
+pub fn nodes_are_of_the_tree()
     ensures lowest { CheapestIsLowest }
     ensures settled { CheapestIsSettled }
     ensures replans { ReplansOne }
     ensures descend { NodesDescend }
     ensures stay { NodesStay }
-{
-    0
-}
+{}
 
 // Bounds are lower bounds and never fall, a solution has the least sum, and none is said only without a plan.
-pub fn bounds_and_verdicts_hold() -> u8
+pub fn bounds_and_verdicts_hold()
     ensures bounds { BoundsNeverExceedAPlan }
     ensures later { BoundsNeverFall }
     ensures solved { SolvedIsLeastSum }
     ensures none { NoneMeansNoPlan }
     ensures agree { SolvedSumsAgree }
-{
-    0
-}
+{}
 
 // The search ends, and a larger limit changes nothing but when it is full.
-pub fn searches_end() -> u8
+pub fn searches_end()
     ensures ends { SearchEnds }
     ensures count { TurnsCount }
     ensures limits { LargerLimitSame }
-{
-    0
-}
+{}
 
 // All answers to a list of calls together keep the law of searches.
-pub fn runs_are_lawful() -> u8
+pub fn runs_are_lawful()
     ensures { RunsAreLawful }
-{
-    0
-}
+{}

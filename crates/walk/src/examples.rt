@@ -6,10 +6,8 @@ ghost use Rattle.walk.specs.Plain.{CostIsLeast};
 ghost use Rattle.walk.specs.Sleds.{RoutesAreSledRoutes};
 
 // The worked examples hold; a cost is the least instant from which on a route stays at its goal; and the routes by steps between places to stand at are the routes of a sled.
-pub fn shown() -> u8
+pub fn shown()
     ensures examples { AllByRecursion Holds examples }
     ensures costs { (goal : ℕ) (r : List ℕ) → CostIsLeast goal r }
     ensures sleds { (may : ℕ → Bool) (n start goal : ℕ) (s : List ℕ) → RoutesAreSledRoutes may n start goal s }
-{
-    0
-}
+{}

@@ -103,9 +103,5 @@ fn halved(step: i8) -> i8
     ensures value { result ≡ half step }
     ensures short { (negsuc 0 ≤ℤ result) × (result ≤ℤ pos 1) }
 {
-    match step {
-        2 => 1,
-        -2 => -1,
-        _ => 0,
-    }
+    step / 2
 }
