@@ -19,9 +19,8 @@ impl Engine {
     pub fn bound(&self) -> Option<u16>
         ensures { (m : Model) (t : tree.Tree) → IsAt m self.now t → result ≡ tree.bound m.setting t }
     {
-        self.table
-            .cheapest()
-            .map(|number| self.table.records()[number as usize].sum)
+        let number = self.table.cheapest()?;
+        Some(self.table.node(number).sum)
     }
 
     pub fn verdict(&self) -> Status
@@ -37,7 +36,7 @@ impl Engine {
         let Verdict::Solved(number) = self.verdict else {
             return None;
         };
-        Some(&self.table.records()[number as usize])
+        Some(self.table.node(number))
     }
 
     // Where a sled is at an instant in the solved node.

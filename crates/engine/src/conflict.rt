@@ -26,9 +26,14 @@ fn first_meeting<P: Problem>(problem: &P, routes: &[Route; MAX_SLEDS]) -> Option
     first_pair(
         problem.sleds(),
         instants,
-        |instant, first, second|
-            requires { (instant < 64) × ((first < 6) × (second < 6)) }
-        { problem.meets(at(routes, first, instant), at(routes, second, instant)) },
+        |pair|
+            requires { (pair.instant < 64) × ((pair.first < 6) × (pair.second < 6)) }
+        {
+            problem.meets(
+                at(routes, pair.first, pair.instant),
+                at(routes, pair.second, pair.instant),
+            )
+        },
     )
 }
 
@@ -40,12 +45,12 @@ fn first_collision<P: Problem>(problem: &P, routes: &[Route; MAX_SLEDS]) -> Opti
     first_pair(
         problem.sleds(),
         steps,
-        |instant, first, second|
-            requires { (instant < 63) × ((first < 6) × (second < 6)) }
+        |pair|
+            requires { (pair.instant < 63) × ((pair.first < 6) × (pair.second < 6)) }
         {
             problem.collides(
-                going(routes, first, instant),
-                going(routes, second, instant),
+                going(routes, pair.first, pair.instant),
+                going(routes, pair.second, pair.instant),
             )
         },
     )

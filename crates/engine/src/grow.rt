@@ -58,7 +58,7 @@ pub(crate) fn child<P: Problem>(
 {
     let forbidden = collect(table, number as usize, own);
     let route = plan_sled(problem, &forbidden, own.sled)?;
-    let mut routes = table.records()[number as usize].routes;
+    let mut routes = table.node(number).routes;
     routes[own.sled] = route;
     let sum = total_cost(problem, &routes);
     Some(Node {

@@ -46,7 +46,7 @@ impl Engine {
         match (self.verdict, self.table.cheapest()) {
             (Verdict::Working, Some(number)) => match first_conflict(
                 problem,
-                &self.table.records()[number as usize].routes,
+                &self.table.node(number).routes,
             ) {
                 None => self.verdict = Verdict::Solved(number),
                 Some(conflict) => {
