@@ -1,5 +1,5 @@
 // The two constraints that a conflict calls for.
-ghost use Rattle.std.specs.Prelude.{◌≡◌, ◌+◌, ◌<◌, Some, slice_index};
+ghost use Rattle.std.specs.Prelude.{◌≡◌, ◌+◌, ◌<◌, slice_index};
 ghost use Rattle.tree.specs.Conflicts as conflicts;
 ghost use Rattle.tree.specs.Tree as tree;
 ghost use Rattle.engine.specs.Model.{search_of};
@@ -19,7 +19,7 @@ pub(crate) fn split<P: Problem>(
     requires { conflicts.HasConflict (P.Problem.model problem.now).setting (plan_of (P.Problem.model problem.now).setting routes.now) (conflict_of conflict) }
     ensures first { (x : tree.Node) → x.routes ≡ plan_of (P.Problem.model problem.now).setting routes.now → tree.first_constraint (search_of (P.Problem.model problem.now)) x (conflict_of conflict) ≡ sled_constraint_of result.0 }
     ensures second { (x : tree.Node) → x.routes ≡ plan_of (P.Problem.model problem.now).setting routes.now → tree.second_constraint (search_of (P.Problem.model problem.now)) x (conflict_of conflict) ≡ sled_constraint_of result.1 }
-    ensures lies { (LiesIn (P.Problem.model problem.now).setting (Some result.0)) × (LiesIn (P.Problem.model problem.now).setting (Some result.1)) }
+    ensures lies { (LiesIn (P.Problem.model problem.now).setting result.0) × (LiesIn (P.Problem.model problem.now).setting result.1) }
 {
     let (pair, lower, higher) = match conflict {
         Conflict::Meeting(pair) => {

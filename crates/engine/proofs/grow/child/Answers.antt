@@ -34,7 +34,7 @@ returns-in_err-route g c = record {
 
 pub returns : goal.returns
 returns g c = record {
-  formed = λ k h. formed_child k c.args.number c.args.own h (timely_fits (g.P.Problem.model c.args.problem.now).setting c.args.own.constraint (g.met.P.Problem.keeps c.args.problem.now).short c.requires.lies.1);
+  formed = λ k h. formed_child k record { parent = c.args.number; own = c.args.own } h (timely_fits (g.P.Problem.model c.args.problem.now).setting c.args.own.constraint (g.met.P.Problem.keeps c.args.problem.now).short c.requires.lies.1);
   as_made = λ xs k t h.
       let m = g.P.Problem.model c.args.problem.now in
       let nodes = c.args.table.now.nodes in
