@@ -58,7 +58,7 @@ impl Engine {
         ensures { (t : tree.Tree) → IsAt (P.Problem.model problem.now) self.now t → option_map (take (suc (P.Problem.model problem.now).setting.horizon)) result ≡ route_told (P.Problem.model problem.now).setting t.nodes t.verdict sled }
     {
         let node = self.solved()?;
-        // By hand: a closure for `then` that gives an array needs clauses of its own, longer than these arms.
+        // By hand: with `get` it stays open in the proof that the node that `solved` lends has six routes.
         if sled < problem.sleds() {
             Some(node.routes[sled])
         } else {

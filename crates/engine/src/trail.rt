@@ -17,7 +17,7 @@ fn add_trail(table: &NodeTable, number: usize, sled: usize, forbidden: &mut Forb
     ensures { (m : Model) (xs : List tree.Node) (all : List constraints.Constraint) → Tracks m table.now.nodes.items xs → Collected forbidden.old (constraints.constraints_on sled (slice_index_or xs number blank).trail) all → Collected forbidden.new [] all }
 {
     let nodes = table.records();
-    // By hand: that parents have lower numbers ends this loop, and `iter::successors` has no place to say it.
+    // By hand: the number where the walk stands shows that it ends and that its moves have room; a chain of branches tells no number.
     let mut at = number;
     while let Some(branch) = nodes[at].branch {
         if branch.own.sled == sled {
