@@ -18,7 +18,8 @@ pub(crate) enum Conflict {
     Collision(Pair),
 }
 
-// The first two sleds that meet at an instant up to the horizon.
+// The first two sleds that meet at an instant up to the horizon. The problem and the routes stay two arguments: of a struct of both each
+// clause would be longer.
 fn first_meeting<P: Problem>(problem: &P, routes: &[Route; MAX_SLEDS]) -> Option<Pair>
     ensures { result ≡ scanned (P.Problem.model problem.now).setting.sleds (meet_at (P.Problem.model problem.now).setting (plan_of (P.Problem.model problem.now).setting routes.now)) ((P.Problem.model problem.now).setting.horizon + 1) }
 {
