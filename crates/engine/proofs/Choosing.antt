@@ -1,7 +1,6 @@
 -- The walk's choice is the theory's: its routes are the routes that obey the constraints, and they cost the same.
 use Rattle.std.proofs.Common.{◌≡◌, ℕ, zero, suc, ◌+◌, ◌-◌, ◌<◌, ◌≤◌, Bool, true, false, cond, not, ◌&&◌, ◌||◌, eqb, ltb, List, [], ◌∷◌, length, take, replicate, Some, None, Option, sym, refl, ap, ◌∙◌, subst, ap₂, inl, inr, ⊎_elim, arith}
 use Rattle.std.specs.List.{AllByRecursion}
-use Rattle.std.specs.Option.{MatchOption, option_map}
 use Rattle.std.proofs.lemmas.Bool.{and_parts, and_from, and_right, lt-ltb, cases_Bool, cases_lt, not-true, not_from_false, or_parts, or_from, both_ways}
 use Rattle.std.proofs.lemmas.List.{take_at}
 use Rattle.grid.specs.Board.{Step}
@@ -213,17 +212,13 @@ module _ (m : Model) (ok : Keeps m) (b : Forbidden) (bs : List constraints.Const
       none (v ∷ q) route o = nowhere q (subst (λ x. plain.Route a S.horizon x (S.goal s) q) route.begins (walked v q route o))
 
   module _ (n start goal : ℕ) (e : n ≡ S.horizon) (f : start ≡ S.start s) (h : goal ≡ S.goal s) where
-    choice_none : NoRoute a n start goal → None ≡ first_choice S s bs
+    pub choice_none : NoRoute a n start goal → None ≡ first_choice S s bs
     choice_none nowhere = sym (none_is (subst (λ x. (w : List ℕ) → plain.Route a x (S.start s) (S.goal s) w → ⊥) e (subst (λ x. (w : List ℕ) → plain.Route a n x (S.goal s) w → ⊥) f (subst (λ x. (w : List ℕ) → plain.Route a n start x w → ⊥) h nowhere.none))))
 
-    choice_some : (found : Found) → FirstRoute a n start goal found → Some (take (suc S.horizon) found.places) ≡ first_choice S s bs
+    pub choice_some : (found : Found) → FirstRoute a n start goal found → Some (take (suc S.horizon) found.places) ≡ first_choice S s bs
     choice_some found first =
         let w = first.route in
         let best : plain.Best a S.horizon (S.start s) (S.goal s) w = subst (λ x. plain.Best a x (S.start s) (S.goal s) w) e (subst (λ x. plain.Best a n x (S.goal s) w) f (subst (λ x. plain.Best a n start x w) h first.best)) in
         let front : take (suc S.horizon) found.places ≡ S.start s ∷ w =
         ap (take (suc S.horizon)) first.places_are ∙ ap₂ (λ (x : ℕ) (q : List ℕ). x ∷ q) f (take_at w (replicate (63 - n) goal) S.horizon best.route.long) in
         ap {B = Option (List ℕ)} Some front ∙ sym (first_is w best)
-
-    pub choice_is : (o : Option Found) → MatchOption o (NoRoute a n start goal) (FirstRoute a n start goal) → option_map (take (suc S.horizon)) (option_map (λ (found : Found). found.places) o) ≡ first_choice S s bs
-    choice_is None nowhere = choice_none nowhere
-    choice_is (Some found) first = choice_some found first

@@ -5,11 +5,11 @@ use Rattle.std.proofs.lemmas.List.{length_push, get_or_append_left, get_or_push,
 use Rattle.std.specs.Option.{option_to_list}
 use Rattle.engine.specs.declared.node.Node.{Node}
 use Rattle.engine.specs.Table.{empty}
-use Rattle.engine.specs.WellFormed.{is_in_table, well_formed_constraint, WellFormed, AllWellFormed, MadeWellFormed}
+use Rattle.engine.specs.WellFormed.{is_in_table, well_formed_branch, WellFormed, AllWellFormed, MadeWellFormed}
 use Rattle.engine.specs.Forbids.{FitsTable}
 use Rattle.engine.specs.declared.node.Constraint.{Constraint}
 use Rattle.engine.specs.declared.node.Constraint.TheVariants.{Places, Move}
-use Rattle.engine.specs.declared.node.SledConstraint.{SledConstraint}
+use Rattle.engine.specs.declared.node.Branch.{Branch}
 
 fits_from : (b : Constraint) → is_in_table b ≡ true → FitsTable b
 fits_from (Places t set) e = ltb-true t 64 e
@@ -19,14 +19,14 @@ fits_to : (b : Constraint) → FitsTable b → is_in_table b ≡ true
 fits_to (Places t set) l = lt-ltb t 64 l
 fits_to (Move m) l = lt-ltb m.instant 64 l
 
-pub formed_lower : (k : ℕ) (n : Node) (b : SledConstraint) → n.constraint ≡ Some b → WellFormed k n → n.parent < k
-formed_lower k n b e h = ltb-true n.parent k (and_parts (ltb n.parent k) (is_in_table b.constraint) (subst (λ (o : Option SledConstraint). well_formed_constraint k n.parent o ≡ true) e h)).0
+pub formed_lower : (k : ℕ) (n : Node) (b : Branch) → n.branch ≡ Some b → WellFormed k n → b.parent < k
+formed_lower k n b e h = ltb-true b.parent k (and_parts (ltb b.parent k) (is_in_table b.own.constraint) (subst (λ (o : Option Branch). well_formed_branch k o ≡ true) e h)).0
 
-pub formed_fits : (k : ℕ) (n : Node) (b : SledConstraint) → n.constraint ≡ Some b → WellFormed k n → FitsTable b.constraint
-formed_fits k n b e h = fits_from b.constraint (and_parts (ltb n.parent k) (is_in_table b.constraint) (subst (λ (o : Option SledConstraint). well_formed_constraint k n.parent o ≡ true) e h)).1
+pub formed_fits : (k : ℕ) (n : Node) (b : Branch) → n.branch ≡ Some b → WellFormed k n → FitsTable b.own.constraint
+formed_fits k n b e h = fits_from b.own.constraint (and_parts (ltb b.parent k) (is_in_table b.own.constraint) (subst (λ (o : Option Branch). well_formed_branch k o ≡ true) e h)).1
 
-pub formed_child : (k parent : ℕ) (b : SledConstraint) → parent < k → FitsTable b.constraint → well_formed_constraint k parent (Some b) ≡ true
-formed_child k parent b l s = and_from (ltb parent k) (is_in_table b.constraint) (lt-ltb parent k l) (fits_to b.constraint s)
+pub formed_child : (k : ℕ) (b : Branch) → b.parent < k → FitsTable b.own.constraint → well_formed_branch k (Some b) ≡ true
+formed_child k b l s = and_from (ltb b.parent k) (is_in_table b.own.constraint) (lt-ltb b.parent k l) (fits_to b.own.constraint s)
 
 formed_push : (rows : List Node) (n : Node) → AllWellFormed rows → WellFormed (length rows) n → AllWellFormed (rows ++ n ∷ [])
 formed_push rows n h new j m =

@@ -1,7 +1,7 @@
 -- Nodes are made where the theory makes them.
 use Rattle.std.proofs.Common.{◌≡◌, ℕ, zero, suc, ◌<◌, ◌≤◌, true, List, [], ◌∷◌, ◌++◌, length, get_or, take, set, is_some, Some, None, Option, sym, refl, ap, ◌∙◌, subst, ap₂, arith}
 use Rattle.std.proofs.lemmas.List.{length-map, length-take-le, length-append, get_or_append_left}
-use Rattle.std.specs.Option.{option_map}
+use Rattle.std.specs.Option.{IfSome, option_map}
 use Rattle.tree.specs.Lists.{both_or_none, gather}
 use Rattle.tree.specs.Setting.{Setting}
 use Rattle.tree.specs.Plans.{Plan, sum}
@@ -13,7 +13,7 @@ use Rattle.tree.proofs.Nodes.{replans_one}
 use Rattle.engine.specs.declared.node.SledConstraint.{SledConstraint}
 use Rattle.engine.specs.declared.node.Node.{Node}
 use Rattle.engine.specs.Model.{Model, search_of}
-use Rattle.engine.specs.Table.{plan_of, sled_constraint_of, own, LiesIn, Tracks, MadeAs, blank, empty}
+use Rattle.engine.specs.Table.{plan_of, sled_constraint_of, parent_of, own, LiesIn, Tracks, MadeAs, blank, empty}
 use Rattle.engine.proofs.Plans.{route_of, plan_set}
 use Rattle.engine.proofs.Trails.{constraints_none}
 
@@ -72,8 +72,8 @@ module _ (m : Model) where
     unfolding tree.make_node
     made_none o f e = subst (λ (q : Option Node). MadeAs m above k q (option_map with_routes (tree.routes_under P trail))) (sym f) (subst (λ (q : Option Plan). MadeAs m above k None (option_map with_routes q)) e tt)
 
-    pub made_some : (n : Node) → Some (plan_of S n.routes) ≡ tree.routes_under P trail → parent ≡ n.parent → trail ≡ own n.constraint above → true ≡ n.is_open → n.sum ≡ sum S (plan_of S n.routes) →
-        (is_some n.constraint ≡ true → n.parent < k) → LiesIn S n.constraint → MadeAs m above k (Some n) (tree.make_node P parent trail)
+    pub made_some : (n : Node) → Some (plan_of S n.routes) ≡ tree.routes_under P trail → parent ≡ parent_of n.branch → trail ≡ own n.branch above → true ≡ n.is_open → n.sum ≡ sum S (plan_of S n.routes) →
+        (is_some n.branch ≡ true → parent_of n.branch < k) → IfSome n.branch (λ b. LiesIn S b.own) → MadeAs m above k (Some n) (tree.make_node P parent trail)
     unfolding tree.make_node
     made_some n e p t o s low lies =
         subst (λ (q : Option Plan). MadeAs m above k (Some n) (option_map with_routes q)) e

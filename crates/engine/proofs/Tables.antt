@@ -8,20 +8,21 @@ use Rattle.tree.specs.Constraints as constraints
 use Rattle.tree.specs.Search as search
 use Rattle.tree.specs.Tree as tree
 use Rattle.engine.specs.declared.node.SledConstraint.{SledConstraint}
+use Rattle.engine.specs.declared.node.Branch.{Branch}
 use Rattle.engine.specs.declared.node.Node.{Node}
 use Rattle.engine.specs.Model.{Model, search_of}
-use Rattle.engine.specs.Table.{own, Holds, Tracks, MadeAs, blank, empty, found_of, sled_constraint_of, conflict_of}
+use Rattle.engine.specs.Table.{parent_of, own, Holds, Tracks, MadeAs, blank, empty, found_of, sled_constraint_of, conflict_of}
 use Rattle.engine.specs.declared.conflict.Conflict.{Conflict}
 use Rattle.engine.specs.Least.{closed, closed_at}
 
-own_above : (o : Option SledConstraint) (above other : List constraints.SledConstraint) → (is_some o ≡ true → other ≡ above) → own o above ≡ own o other
+own_above : (o : Option Branch) (above other : List constraints.SledConstraint) → (is_some o ≡ true → other ≡ above) → own o above ≡ own o other
 own_above None above other h = refl
-own_above (Some b) above other h = ap (λ (t : List constraints.SledConstraint). sled_constraint_of b ∷ t) (sym (h refl))
+own_above (Some b) above other h = ap (λ (t : List constraints.SledConstraint). sled_constraint_of b.own ∷ t) (sym (h refl))
 
-pub holds_above : (m : Model) (above other : List constraints.SledConstraint) (k : ℕ) (n : Node) (x : tree.Node) → Holds m above k n x → (is_some n.constraint ≡ true → other ≡ above) → Holds m other k n x
+pub holds_above : (m : Model) (above other : List constraints.SledConstraint) (k : ℕ) (n : Node) (x : tree.Node) → Holds m above k n x → (is_some n.branch ≡ true → other ≡ above) → Holds m other k n x
 holds_above m above other k n x h e = record {
   parent = h.parent;
-  trail = h.trail ∙ own_above n.constraint above other e;
+  trail = h.trail ∙ own_above n.branch above other e;
   routes = h.routes;
   is_open = h.is_open;
   sum_is = h.sum_is;
@@ -62,20 +63,20 @@ module _ (m : Model) (table : List Node) (xs : List tree.Node) (t : Tracks m tab
             (λ (e : j ≡ k).
             let table_j : get_or (set table k n) j empty ≡ n = ap (λ (i : ℕ). get_or (set table k n) i empty) e ∙ get_or-set_same table k n empty l in
             let xs_j : get_or (set xs k x) j blank ≡ x = ap (λ (i : ℕ). get_or (set xs k x) i blank) e ∙ get_or-set_same xs k x blank l' in
-            let old = holds_closed m (get_or xs (get_or table k empty).parent blank).trail j (get_or table k empty) (get_or xs k blank)
-            (subst (λ i. Holds m (get_or xs (get_or table i empty).parent blank).trail j (get_or table i empty) (get_or xs i blank)) e (t.each j h')) in
-            subst (λ (q : Node). Holds m (get_or (set xs k x) q.parent blank).trail j q (get_or (set xs k x) j blank)) (sym table_j)
-            (subst (Holds m (get_or (set xs k x) n.parent blank).trail j n) (sym xs_j) (holds_above m _ _ j n x old (λ _. trail_kept k n.parent l'))))
+            let old = holds_closed m (get_or xs (parent_of (get_or table k empty).branch) blank).trail j (get_or table k empty) (get_or xs k blank)
+            (subst (λ i. Holds m (get_or xs (parent_of (get_or table i empty).branch) blank).trail j (get_or table i empty) (get_or xs i blank)) e (t.each j h')) in
+            subst (λ (q : Node). Holds m (get_or (set xs k x) (parent_of q.branch) blank).trail j q (get_or (set xs k x) j blank)) (sym table_j)
+            (subst (Holds m (get_or (set xs k x) (parent_of n.branch) blank).trail j n) (sym xs_j) (holds_above m _ _ j n x old (λ _. trail_kept k (parent_of n.branch) l'))))
             (λ (e : j ≢ k).
             let table_j : get_or (set table k n) j empty ≡ get_or table j empty = get_or-set_other table k j n empty e in
             let xs_j : get_or (set xs k x) j blank ≡ get_or xs j blank = get_or-set_other xs k j x blank e in
-            subst (λ (q : Node). Holds m (get_or (set xs k x) q.parent blank).trail j q (get_or (set xs k x) j blank)) (sym table_j)
-            (subst (Holds m (get_or (set xs k x) (get_or table j empty).parent blank).trail j (get_or table j empty)) (sym xs_j)
-            (holds_above m _ _ j (get_or table j empty) (get_or xs j blank) (t.each j h') (λ _. trail_kept k (get_or table j empty).parent l'))))
+            subst (λ (q : Node). Holds m (get_or (set xs k x) (parent_of q.branch) blank).trail j q (get_or (set xs k x) j blank)) (sym table_j)
+            (subst (Holds m (get_or (set xs k x) (parent_of (get_or table j empty).branch) blank).trail j (get_or table j empty)) (sym xs_j)
+            (holds_above m _ _ j (get_or table j empty) (get_or xs j blank) (t.each j h') (λ _. trail_kept k (parent_of (get_or table j empty).branch) l'))))
             (cases_eq j k);
       }
 
-  pub push_tracks : (n : Node) (x : tree.Node) → Holds m (get_or xs n.parent blank).trail (length table) n x → Tracks m (table ++ n ∷ []) (xs ++ x ∷ [])
+  pub push_tracks : (n : Node) (x : tree.Node) → Holds m (get_or xs (parent_of n.branch) blank).trail (length table) n x → Tracks m (table ++ n ∷ []) (xs ++ x ∷ [])
   push_tracks n x new =
       let above : (p : ℕ) → p < length table → (get_or (xs ++ x ∷ []) p blank).trail ≡ (get_or xs p blank).trail = λ p l.
       ap (λ (y : tree.Node). y.trail) (get_or_append_left xs (x ∷ []) blank p (omega (arith, t.size))) in
@@ -88,27 +89,27 @@ module _ (m : Model) (table : List Node) (xs : List tree.Node) (t : Tracks m tab
             let table_j : get_or (table ++ n ∷ []) j empty ≡ get_or table j empty = get_or_append_left table (n ∷ []) empty j l in
             let xs_j : get_or (xs ++ x ∷ []) j blank ≡ get_or xs j blank = get_or_append_left xs (x ∷ []) blank j (omega (arith, t.size)) in
             let old = t.each j l in
-            subst (λ (q : Node). Holds m (get_or (xs ++ x ∷ []) q.parent blank).trail j q (get_or (xs ++ x ∷ []) j blank)) (sym table_j)
-            (subst (Holds m (get_or (xs ++ x ∷ []) (get_or table j empty).parent blank).trail j (get_or table j empty)) (sym xs_j)
-            (holds_above m _ _ j (get_or table j empty) (get_or xs j blank) old (λ s. above (get_or table j empty).parent (omega (arith, old.lower s))))))
+            subst (λ (q : Node). Holds m (get_or (xs ++ x ∷ []) (parent_of q.branch) blank).trail j q (get_or (xs ++ x ∷ []) j blank)) (sym table_j)
+            (subst (Holds m (get_or (xs ++ x ∷ []) (parent_of (get_or table j empty).branch) blank).trail j (get_or table j empty)) (sym xs_j)
+            (holds_above m _ _ j (get_or table j empty) (get_or xs j blank) old (λ s. above (parent_of (get_or table j empty).branch) (omega (arith, old.lower s))))))
             (λ (l : length table ≤ j).
             let e : j ≡ length table = omega arith in
             let table_j : get_or (table ++ n ∷ []) j empty ≡ n = get_or_push table n empty j (sym e) in
             let xs_j : get_or (xs ++ x ∷ []) j blank ≡ x = get_or_push xs x blank j (t.size ∙ sym e) in
-            subst (λ (q : Node). Holds m (get_or (xs ++ x ∷ []) q.parent blank).trail j q (get_or (xs ++ x ∷ []) j blank)) (sym table_j)
-            (subst (Holds m (get_or (xs ++ x ∷ []) n.parent blank).trail j n) (sym xs_j)
-            (subst (λ i. Holds m (get_or (xs ++ x ∷ []) n.parent blank).trail i n x) (sym e)
-            (holds_above m _ _ (length table) n x new (λ s. above n.parent (new.lower s))))))
+            subst (λ (q : Node). Holds m (get_or (xs ++ x ∷ []) (parent_of q.branch) blank).trail j q (get_or (xs ++ x ∷ []) j blank)) (sym table_j)
+            (subst (Holds m (get_or (xs ++ x ∷ []) (parent_of n.branch) blank).trail j n) (sym xs_j)
+            (subst (λ i. Holds m (get_or (xs ++ x ∷ []) (parent_of n.branch) blank).trail i n x) (sym e)
+            (holds_above m _ _ (length table) n x new (λ s. above (parent_of n.branch) (new.lower s))))))
             (cases_lt j (length table));
       }
 
   -- with what was made, where something was
   pub extend_tracks : (above : List constraints.SledConstraint) (r : Option Node) (o : Option tree.Node) → MadeAs m above (length table) r o →
-      ((n : Node) (x : tree.Node) → o ≡ Some x → n.parent ≡ x.parent → (get_or xs n.parent blank).trail ≡ above) → Tracks m (table ++ option_to_list r) (xs ++ to_list o)
+      ((n : Node) (x : tree.Node) → o ≡ Some x → (parent_of n.branch) ≡ x.parent → (get_or xs (parent_of n.branch) blank).trail ≡ above) → Tracks m (table ++ option_to_list r) (xs ++ to_list o)
   extend_tracks above None None h e = subst (λ (a : List Node). Tracks m a (xs ++ [])) (sym (append-nil table)) (subst (Tracks m table) (sym (append-nil xs)) t)
   extend_tracks above None (Some x) h e = absurd h
   extend_tracks above (Some n) None h e = absurd h
-  extend_tracks above (Some n) (Some x) h e = push_tracks n x (holds_above m above (get_or xs n.parent blank).trail (length table) n x h (λ _. e n x refl (sym h.parent)))
+  extend_tracks above (Some n) (Some x) h e = push_tracks n x (holds_above m above (get_or xs (parent_of n.branch) blank).trail (length table) n x h (λ _. e n x refl (sym h.parent)))
 
 mapped_some : {A B : Type 0} (f : A → B) (o : Option A) {y : B} → option_map f o ≡ Some y → (x : A) × (f x ≡ y)
 mapped_some f None e = absurd (let z : ◌≡◌ {A = ℕ} 0 1 = cc in omega arith)

@@ -5,12 +5,14 @@ use Rattle.tree.specs.Setting.{Setting}
 use Rattle.tree.specs.Constraints as constraints
 use Rattle.tree.specs.Tree as tree
 use Rattle.engine.specs.Model.{Model}
-use Rattle.engine.specs.Table.{Tracks, Timely, LiesIn, blank, empty, own, sled_constraint_of, constraint_of}
+use Rattle.engine.specs.Table.{Tracks, Timely, LiesIn, blank, empty, parent_of, own, sled_constraint_of, constraint_of}
 use Rattle.engine.specs.Forbids.{FitsTable, InTime}
+use Rattle.std.specs.Option.{IfSome}
 use Rattle.std.specs.List.{AllByRecursion}
 use Rattle.engine.specs.declared.node.Constraint.{Constraint}
 use Rattle.engine.specs.declared.node.Constraint.TheVariants.{Places, Move}
 use Rattle.engine.specs.declared.node.SledConstraint.{SledConstraint}
+use Rattle.engine.specs.declared.node.Branch.{Branch}
 use Rattle.engine.specs.declared.node.Node.{Node}
 
 pub timely_fits : (S : Setting) (b : Constraint) → S.horizon ≤ 63 → Timely S b → FitsTable b
@@ -36,11 +38,11 @@ module _ (m : Model) (table : List Node) (xs : List tree.Node) (t : Tracks m tab
   abbrev trail_at : ℕ → List constraints.SledConstraint
   trail_at j = (get_or xs j blank).trail
 
-  pub root_trail : record_at.constraint ≡ None → trail_at k ≡ []
-  root_trail e = (t.each k l).trail ∙ ap (λ (o : Option SledConstraint). own o (trail_at record_at.parent)) e
+  pub root_trail : record_at.branch ≡ None → trail_at k ≡ []
+  root_trail e = (t.each k l).trail ∙ ap (λ (o : Option Branch). own o (trail_at (parent_of o))) e
 
-  pub child_trail : (b : SledConstraint) → record_at.constraint ≡ Some b → trail_at k ≡ sled_constraint_of b ∷ trail_at record_at.parent
-  child_trail b e = (t.each k l).trail ∙ ap (λ (o : Option SledConstraint). own o (trail_at record_at.parent)) e
+  pub child_trail : (b : Branch) → record_at.branch ≡ Some b → trail_at k ≡ sled_constraint_of b.own ∷ trail_at b.parent
+  child_trail b e = (t.each k l).trail ∙ ap (λ (o : Option Branch). own o (trail_at (parent_of o))) e
 
 -- every constraint of a trail lies within the horizon
 abbrev TimelyConstraint : Setting → constraints.SledConstraint → Type 0
@@ -50,9 +52,9 @@ timely_in : (S : Setting) (b : Constraint) → Timely S b → InTime S (constrai
 timely_in S (Places t set) h = h
 timely_in S (Move m) h = h
 
-own_timely : (S : Setting) (o : Option SledConstraint) (above : List constraints.SledConstraint) → LiesIn S o → (is_some o ≡ true → AllByRecursion (TimelyConstraint S) above) → AllByRecursion (TimelyConstraint S) (own o above)
+own_timely : (S : Setting) (o : Option Branch) (above : List constraints.SledConstraint) → IfSome o (λ b. LiesIn S b.own) → (is_some o ≡ true → AllByRecursion (TimelyConstraint S) above) → AllByRecursion (TimelyConstraint S) (own o above)
 own_timely S None above h k = tt
-own_timely S (Some b) above h k = (timely_in S b.constraint h.1, k refl)
+own_timely S (Some b) above h k = (timely_in S b.own.constraint h.1, k refl)
 
 module _ (m : Model) (table : List Node) (xs : List tree.Node) (t : Tracks m table xs) where
   trail_timely_up : (n k : ℕ) → k < n → k < length table → AllByRecursion (TimelyConstraint m.setting) (get_or xs k blank).trail
@@ -60,8 +62,8 @@ module _ (m : Model) (table : List Node) (xs : List tree.Node) (t : Tracks m tab
   trail_timely_up (suc n) k h l =
       let e = t.each k l in
       subst (AllByRecursion (TimelyConstraint m.setting)) (sym e.trail)
-      (own_timely m.setting (get_or table k empty).constraint (get_or xs (get_or table k empty).parent blank).trail e.lies_in
-      (λ some. let low = e.lower some in trail_timely_up n (get_or table k empty).parent (omega arith) (omega arith)))
+      (own_timely m.setting (get_or table k empty).branch (get_or xs (parent_of (get_or table k empty).branch) blank).trail e.lies_in
+      (λ some. let low = e.lower some in trail_timely_up n (parent_of (get_or table k empty).branch) (omega arith) (omega arith)))
 
   pub trail_timely : (k : ℕ) → k < length table → AllByRecursion (TimelyConstraint m.setting) (get_or xs k blank).trail
   trail_timely k l = trail_timely_up (k + 1) k (omega arith) l

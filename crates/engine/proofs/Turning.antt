@@ -17,7 +17,7 @@ use Rattle.engine.specs.declared.node.Verdict.{Verdict}
 use Rattle.engine.specs.declared.node.Verdict.TheVariants.{Working, Solved, Unsolvable, Full}
 use Rattle.engine.specs.declared.conflict.Conflict.{Conflict}
 use Rattle.engine.specs.Model.{Model, search_of}
-use Rattle.engine.specs.Table.{plan_of, conflict_of, verdict_of, Tracks, MadeAs, Follows, blank, empty, found_of}
+use Rattle.engine.specs.Table.{parent_of, plan_of, conflict_of, verdict_of, Tracks, MadeAs, Follows, blank, empty, found_of}
 use Rattle.engine.specs.Least.{CheapestSoFar}
 use Rattle.engine.specs.Engine.{Goes}
 use Rattle.engine.specs.declared.state.Engine.{Engine}
@@ -93,7 +93,7 @@ root_tracks m limit r h = record { tracks = start r (tree.make_node (search_of m
     start None None h = none_yet
     start None (Some x) h = absurd (h [])
     start (Some n) None h = absurd (h [])
-    start (Some n) (Some x) h = push_tracks m [] [] none_yet n x (h (get_or [] n.parent blank).trail)
+    start (Some n) (Some x) h = push_tracks m [] [] none_yet n x (h (get_or [] (parent_of n.branch) blank).trail)
 
 over : (v : Verdict) → (v ≡ Working → ⊥) → tree.is_working (verdict_of v) ≡ false
 over Working h = absurd (h refl)

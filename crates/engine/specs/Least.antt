@@ -24,7 +24,7 @@ CheapestSoFar table n (Some b) = IsLeast table n b
 
 -- a record that is closed, and a table in which record k is
 abbrev pub closed : Node → Node
-closed n = record { parent = n.parent; constraint = n.constraint; routes = n.routes; sum = n.sum; is_open = false }
+closed n = record { branch = n.branch; routes = n.routes; sum = n.sum; is_open = false }
 
 abbrev pub closed_at : List Node → ℕ → List Node
 closed_at table k = slice_set table k (closed (slice_index_or table k empty))

@@ -4,12 +4,12 @@ use Rattle.tree.specs.Lists.{first_below}
 use Rattle.engine.specs.declared.scan.Pair.{Pair}
 
 -- it holds of each instant below n and each pair of sleds
-abbrev pub Pairs : (sleds n : ℕ) → ((t i j : ℕ) → Type 0) → Type 0
-Pairs sleds n holds = (t i j : ℕ) → t < n → i < j → j < sleds → holds t i j
+abbrev pub Pairs : (sleds n : ℕ) → (Pair → Type 0) → Type 0
+Pairs sleds n holds = (p : Pair) → p.instant < n → p.first < p.second → p.second < sleds → holds p
 
 -- what is answered of each of them is whether it passes the test
-abbrev pub Decides : (sleds n : ℕ) → ((t i j : ℕ) → Bool → Type 0) → ((t i j : ℕ) → Bool) → Type 0
-Decides sleds n answers test = Pairs sleds n (λ t i j. (b : Bool) → answers t i j b → b ≡ test t i j)
+abbrev pub Decides : (sleds n : ℕ) → (Pair → Bool → Type 0) → ((t i j : ℕ) → Bool) → Type 0
+Decides sleds n answers test = Pairs sleds n (λ p. (b : Bool) → answers p b → b ≡ test p.instant p.first p.second)
 
 -- instant t and sleds i and j
 abbrev pub pair_of : (t i j : ℕ) → Pair

@@ -2,7 +2,7 @@
 use Rattle.std.specs.Prelude.{◌≡◌, ℕ, ◌<◌, Bool, true, ◌&&◌, List, length, Some, None, Option, nat_lt, slice_index_or}
 use Rattle.engine.specs.declared.node.Constraint.{Constraint}
 use Rattle.engine.specs.declared.node.Constraint.TheVariants.{Places, Move}
-use Rattle.engine.specs.declared.node.SledConstraint.{SledConstraint}
+use Rattle.engine.specs.declared.node.Branch.{Branch}
 use Rattle.engine.specs.declared.node.Node.{Node}
 use Rattle.engine.specs.declared.node.Verdict.{Verdict}
 use Rattle.engine.specs.declared.node.Verdict.TheVariants.{Working, Solved, Unsolvable, Full}
@@ -13,14 +13,14 @@ abbrev pub is_in_table : Constraint → Bool
 is_in_table (Places t set) = nat_lt t 64
 is_in_table (Move m) = nat_lt m.instant 64
 
--- a node with a constraint has a parent of lower number, and its constraint lies within the instants
-abbrev pub well_formed_constraint : ℕ → ℕ → Option SledConstraint → Bool
-well_formed_constraint k parent None = true
-well_formed_constraint k parent (Some b) = nat_lt parent k && is_in_table b.constraint
+-- a node that branches off has a parent of lower number, and its constraint lies within the instants
+abbrev pub well_formed_branch : ℕ → Option Branch → Bool
+well_formed_branch k None = true
+well_formed_branch k (Some b) = nat_lt b.parent k && is_in_table b.own.constraint
 
 -- record n is well formed as number k of a table
 abbrev pub WellFormed : ℕ → Node → Type 0
-WellFormed k n = well_formed_constraint k n.parent n.constraint ≡ true
+WellFormed k n = well_formed_branch k n.branch ≡ true
 
 -- all records of a table are
 abbrev pub AllWellFormed : List Node → Type 0

@@ -19,9 +19,8 @@ impl Engine {
     pub fn bound(&self) -> Option<u16>
         ensures { (m : Model) (t : tree.Tree) → IsAt m self.now t → result ≡ tree.bound m.setting t }
     {
-        self.table
-            .cheapest()
-            .map(|number| self.table.records()[number as usize].sum)
+        let number = self.table.cheapest()?;
+        Some(self.table.node(number).sum)
     }
 
     pub fn verdict(&self) -> Status
@@ -37,7 +36,7 @@ impl Engine {
         let Verdict::Solved(number) = self.verdict else {
             return None;
         };
-        Some(&self.table.records()[number as usize])
+        Some(self.table.node(number))
     }
 
     // Where a sled is at an instant in the solved node.
@@ -59,7 +58,7 @@ impl Engine {
         ensures { (t : tree.Tree) → IsAt (P.Problem.model problem.now) self.now t → option_map (take (suc (P.Problem.model problem.now).setting.horizon)) result ≡ route_told (P.Problem.model problem.now).setting t.nodes t.verdict sled }
     {
         let node = self.solved()?;
-        // By hand: a closure for `then` that gives an array needs clauses of its own, longer than these arms.
+        // By hand: with `get` it stays open in the proof that the node that `solved` lends has six routes.
         if sled < problem.sleds() {
             Some(node.routes[sled])
         } else {

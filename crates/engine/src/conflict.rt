@@ -18,7 +18,8 @@ pub(crate) enum Conflict {
     Collision(Pair),
 }
 
-// The first two sleds that meet at an instant up to the horizon.
+// The first two sleds that meet at an instant up to the horizon. The problem and the routes stay two arguments: of a struct of both each
+// clause would be longer.
 fn first_meeting<P: Problem>(problem: &P, routes: &[Route; MAX_SLEDS]) -> Option<Pair>
     ensures { result ≡ scanned (P.Problem.model problem.now).setting.sleds (meet_at (P.Problem.model problem.now).setting (plan_of (P.Problem.model problem.now).setting routes.now)) ((P.Problem.model problem.now).setting.horizon + 1) }
 {
@@ -26,9 +27,14 @@ fn first_meeting<P: Problem>(problem: &P, routes: &[Route; MAX_SLEDS]) -> Option
     first_pair(
         problem.sleds(),
         instants,
-        |instant, first, second|
-            requires { (instant < 64) × ((first < 6) × (second < 6)) }
-        { problem.meets(at(routes, first, instant), at(routes, second, instant)) },
+        |pair|
+            requires { (pair.instant < 64) × ((pair.first < 6) × (pair.second < 6)) }
+        {
+            problem.meets(
+                at(routes, pair.first, pair.instant),
+                at(routes, pair.second, pair.instant),
+            )
+        },
     )
 }
 
@@ -40,12 +46,12 @@ fn first_collision<P: Problem>(problem: &P, routes: &[Route; MAX_SLEDS]) -> Opti
     first_pair(
         problem.sleds(),
         steps,
-        |instant, first, second|
-            requires { (instant < 63) × ((first < 6) × (second < 6)) }
+        |pair|
+            requires { (pair.instant < 63) × ((pair.first < 6) × (pair.second < 6)) }
         {
             problem.collides(
-                going(routes, first, instant),
-                going(routes, second, instant),
+                going(routes, pair.first, pair.instant),
+                going(routes, pair.second, pair.instant),
             )
         },
     )

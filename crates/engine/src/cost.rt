@@ -28,7 +28,7 @@ fn route_cost(route: &Route, goal: u8, horizon: Horizon) -> u8
     }
 }
 
-// What the route of a sled costs.
+// What the route of a sled costs. The problem and the routes stay two arguments: of a struct of both each clause would be longer.
 fn sled_cost<P: Problem>(problem: &P, routes: &[Route; MAX_SLEDS], sled: usize) -> u8
     requires { sled < (P.Problem.model problem.now).setting.sleds }
     ensures cost { result ≡ cost (P.Problem.model problem.now).setting sled (route (plan_of (P.Problem.model problem.now).setting routes.now) sled) }

@@ -18,7 +18,7 @@ impl NodeTable {
         requires real { conflicts.HasConflict (P.Problem.model problem.now).setting (plan_of (P.Problem.model problem.now).setting (slice_index_or self.old.nodes.items number empty).routes) (conflict_of conflict) }
         ensures { (xs : List tree.Node) → Tracks (P.Problem.model problem.now) self.old.nodes.items xs → Tracks (P.Problem.model problem.now) self.new.nodes.items (tree.expand (search_of (P.Problem.model problem.now)) xs (found_of xs number) (conflict_of conflict)) }
     {
-        let (first, second) = split(problem, &self.records()[number as usize].routes, conflict);
+        let (first, second) = split(problem, &self.node(number).routes, conflict);
         let lower = child(problem, self, number, first);
         let higher = child(problem, self, number, second);
         self.close(number);

@@ -86,7 +86,9 @@ impl Forbidden {
             Constraint::Move(step) => {
                 self.mark_leaving(step);
                 // There is room for it, as the caller says.
-                let _ = self.moves.push(step);
+                let Ok(()) = self.moves.push(step) else {
+                    unreachable()
+                };
             }
         }
     }

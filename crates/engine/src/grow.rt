@@ -1,5 +1,5 @@
 // Making nodes.
-ghost use Rattle.std.specs.Prelude.{◌≡◌, ℕ, ◌<◌, List, [], ◌∷◌, Some, slice_index_or, vec_len};
+ghost use Rattle.std.specs.Prelude.{◌≡◌, ℕ, ◌<◌, List, [], ◌∷◌, slice_index_or, vec_len};
 ghost use Rattle.std.specs.Option.{option_map};
 ghost use Rattle.tree.specs.Constraints as constraints;
 ghost use Rattle.tree.specs.Tree as tree;
@@ -9,7 +9,7 @@ ghost use Rattle.engine.specs.Table.{plan_of, sled_constraint_of, LiesIn, Tracks
 
 use super::cost::total_cost;
 use super::forbidden::Forbidden;
-use super::node::{MAX_SLEDS, Node, Route, SledConstraint};
+use super::node::{Branch, MAX_SLEDS, Node, Route, SledConstraint};
 use super::plan::plan_sled;
 use super::problem::Problem;
 use super::table::NodeTable;
@@ -36,8 +36,7 @@ pub(crate) fn root<P: Problem>(problem: &P) -> Option<Node>
     let routes = plan_all(problem)?;
     let sum = total_cost(problem, &routes);
     Some(Node {
-        parent: 0,
-        constraint: None,
+        branch: None,
         routes,
         sum,
         is_open: true,
@@ -52,18 +51,20 @@ pub(crate) fn child<P: Problem>(
     own: SledConstraint,
 ) -> Option<Node>
     requires known { number < vec_len table.now.nodes }
-    requires lies { LiesIn (P.Problem.model problem.now).setting (Some own) }
+    requires lies { LiesIn (P.Problem.model problem.now).setting own }
     ensures formed { (k : ℕ) → number < k → MadeWellFormed k result }
     ensures as_made { (xs : List tree.Node) (k : ℕ) → Tracks (P.Problem.model problem.now) table.now.nodes.items xs → number < k → MadeAs (P.Problem.model problem.now) (slice_index_or xs number blank).trail k result (tree.make_node (search_of (P.Problem.model problem.now)) number (sled_constraint_of own ∷ (slice_index_or xs number blank).trail)) }
 {
     let forbidden = collect(table, number as usize, own);
     let route = plan_sled(problem, &forbidden, own.sled)?;
-    let mut routes = table.records()[number as usize].routes;
+    let mut routes = table.node(number).routes;
     routes[own.sled] = route;
     let sum = total_cost(problem, &routes);
     Some(Node {
-        parent: number,
-        constraint: Some(own),
+        branch: Some(Branch {
+            parent: number,
+            own,
+        }),
         routes,
         sum,
         is_open: true,

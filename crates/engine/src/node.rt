@@ -34,12 +34,18 @@ pub(crate) struct SledConstraint {
     pub(crate) constraint: Constraint,
 }
 
-// One record of the table. The root alone has no constraint. A parent is told by its number: both children share it, and memory for all
-// nodes is taken once.
+// How a node branches off: its parent, and the constraint of its own. A parent is told by its number: both children share it, and memory
+// for all nodes is taken once.
+#[derive(Clone, Copy)]
+pub(crate) struct Branch {
+    pub(crate) parent: u16,
+    pub(crate) own: SledConstraint,
+}
+
+// One record of the table. The root alone branches off no other.
 #[derive(Clone, Copy)]
 pub(crate) struct Node {
-    pub(crate) parent: u16,
-    pub(crate) constraint: Option<SledConstraint>,
+    pub(crate) branch: Option<Branch>,
     pub(crate) routes: [Route; MAX_SLEDS],
     pub(crate) sum: u16,
     pub(crate) is_open: bool,

@@ -51,9 +51,6 @@ pub(crate) fn plan_sled<'a, P: Problem>(
         goal: problem.goal(sled),
         horizon: problem.horizon(),
     };
-    first_route(&steps, errand).map(
-        |found|
-            ensures { result ≡ found.places }
-        { found.places },
-    )
+    let found = first_route(&steps, errand)?;
+    Some(found.places)
 }

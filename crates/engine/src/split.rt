@@ -1,5 +1,5 @@
 // The two constraints that a conflict calls for.
-ghost use Rattle.std.specs.Prelude.{◌≡◌, ◌+◌, ◌<◌, Some, slice_index};
+ghost use Rattle.std.specs.Prelude.{◌≡◌, ◌+◌, ◌<◌, slice_index};
 ghost use Rattle.tree.specs.Conflicts as conflicts;
 ghost use Rattle.tree.specs.Tree as tree;
 ghost use Rattle.engine.specs.Model.{search_of};
@@ -19,37 +19,33 @@ pub(crate) fn split<P: Problem>(
     requires { conflicts.HasConflict (P.Problem.model problem.now).setting (plan_of (P.Problem.model problem.now).setting routes.now) (conflict_of conflict) }
     ensures first { (x : tree.Node) → x.routes ≡ plan_of (P.Problem.model problem.now).setting routes.now → tree.first_constraint (search_of (P.Problem.model problem.now)) x (conflict_of conflict) ≡ sled_constraint_of result.0 }
     ensures second { (x : tree.Node) → x.routes ≡ plan_of (P.Problem.model problem.now).setting routes.now → tree.second_constraint (search_of (P.Problem.model problem.now)) x (conflict_of conflict) ≡ sled_constraint_of result.1 }
-    ensures lies { (LiesIn (P.Problem.model problem.now).setting (Some result.0)) × (LiesIn (P.Problem.model problem.now).setting (Some result.1)) }
+    ensures lies { (LiesIn (P.Problem.model problem.now).setting result.0) × (LiesIn (P.Problem.model problem.now).setting result.1) }
 {
-    match conflict {
+    let (pair, lower, higher) = match conflict {
         Conflict::Meeting(pair) => {
             let lower = at(routes, pair.first, pair.instant);
             let higher = at(routes, pair.second, pair.instant);
             let sets = problem.splits(lower, higher);
             (
-                SledConstraint {
-                    sled: pair.first,
-                    constraint: Constraint::Places(pair.instant, sets.lower),
-                },
-                SledConstraint {
-                    sled: pair.second,
-                    constraint: Constraint::Places(pair.instant, sets.higher),
-                },
+                pair,
+                Constraint::Places(pair.instant, sets.lower),
+                Constraint::Places(pair.instant, sets.higher),
             )
         }
         Conflict::Collision(pair) => {
             let lower = step(routes, pair.first, pair.instant);
             let higher = step(routes, pair.second, pair.instant);
-            (
-                SledConstraint {
-                    sled: pair.first,
-                    constraint: Constraint::Move(lower),
-                },
-                SledConstraint {
-                    sled: pair.second,
-                    constraint: Constraint::Move(higher),
-                },
-            )
+            (pair, Constraint::Move(lower), Constraint::Move(higher))
         }
-    }
+    };
+    (
+        SledConstraint {
+            sled: pair.first,
+            constraint: lower,
+        },
+        SledConstraint {
+            sled: pair.second,
+            constraint: higher,
+        },
+    )
 }

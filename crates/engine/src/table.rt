@@ -1,7 +1,8 @@
 // The table of nodes.
-ghost use Rattle.std.specs.Prelude.{◌≡◌, ◌+◌, ◌<◌, ◌≤◌, [], ◌++◌, length, IfOk, vec_len, vec_capacity};
+ghost use Rattle.std.specs.Prelude.{◌≡◌, ◌+◌, ◌<◌, ◌≤◌, [], ◌++◌, length, IfOk, vec_len, vec_capacity, slice_index_or};
 ghost use Rattle.std.specs.Option.{option_to_list};
 ghost use Rattle.engine.specs.Least.{CheapestSoFar, closed_at};
+ghost use Rattle.engine.specs.Table.{empty};
 ghost use Rattle.engine.specs.WellFormed.{AllWellFormed, MadeWellFormed};
 
 use super::node::{MAX_NODES, Node};
@@ -44,6 +45,14 @@ impl NodeTable {
         ensures len { length result.now ≡ vec_len self.now.nodes }
     {
         self.nodes.as_slice()
+    }
+
+    // The node of a number.
+    pub(crate) fn node(&self, number: u16) -> &Node
+        requires { number < vec_len self.now.nodes }
+        ensures { result.now ≡ slice_index_or self.now.nodes.items number empty }
+    {
+        &self.nodes[number as usize]
     }
 
     // Closes a node. That a number is one of the table's is asked where it is used: a type could not say it, as the table grows.

@@ -17,13 +17,13 @@ fn add_trail(table: &NodeTable, number: usize, sled: usize, forbidden: &mut Forb
     ensures { (m : Model) (xs : List tree.Node) (all : List constraints.Constraint) → Tracks m table.now.nodes.items xs → Collected forbidden.old (constraints.constraints_on sled (slice_index_or xs number blank).trail) all → Collected forbidden.new [] all }
 {
     let nodes = table.records();
-    // From parent to parent by hand: nodes are numbers of the table, and the walk ends at the root, which alone has no constraint.
+    // By hand: the number where the walk stands shows that it ends and that its moves have room; a chain of branches tells no number.
     let mut at = number;
-    while let Some(own) = nodes[at].constraint {
-        if own.sled == sled {
-            forbidden.add(own.constraint);
+    while let Some(branch) = nodes[at].branch {
+        if branch.own.sled == sled {
+            forbidden.add(branch.own.constraint);
         }
-        at = nodes[at].parent as usize;
+        at = branch.parent as usize;
     }
 }
 

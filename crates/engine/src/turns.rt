@@ -46,7 +46,7 @@ impl Engine {
         match (self.verdict, self.table.cheapest()) {
             (Verdict::Working, Some(number)) => match first_conflict(
                 problem,
-                &self.table.records()[number as usize].routes,
+                &self.table.node(number).routes,
             ) {
                 None => self.verdict = Verdict::Solved(number),
                 Some(conflict) => {
@@ -73,7 +73,7 @@ impl Engine {
         ensures made { (t : tree.Tree) → IsAt (P.Problem.model problem.now) self.old t → result ≡ made_by (search_of (P.Problem.model problem.now)) self.old.limit count t }
         ensures goes { Goes (P.Problem.model problem.now) self.old self.new (after_turns (search_of (P.Problem.model problem.now)) self.old.limit count) }
     {
-        // By hand: of what the closure of a chain changes a proof learns nothing.
+        // By hand: in a chain one closure would read the engine while another changes it.
         for made in 0..count {
             if !self.is_working() {
                 return made;

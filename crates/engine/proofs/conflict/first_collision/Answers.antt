@@ -10,5 +10,5 @@ returns g c =
     let S = (g.P.Problem.model c.args.problem.now).setting in
     let rs = c.args.routes.now in
     let test = collide_in S (plan_of S rs) in
-    c.first_pair.ensures test (λ t i j h l m b e. let same = collides_same S rs t i j (omega (arith, c.horizon-steps.ensures)) l (omega (arith, c.sleds.ensures)) in search rules)
+    c.first_pair.ensures test (λ p h l m b e. let same = collides_same S rs p.instant p.first p.second (omega (arith, c.horizon-steps.ensures)) l (omega (arith, c.sleds.ensures)) in search rules)
     ∙ ap₂ (λ (a b : ℕ). scanned a test b) c.sleds.ensures c.horizon-steps.ensures

@@ -10,5 +10,5 @@ returns g c =
     let S = (g.P.Problem.model c.args.problem.now).setting in
     let rs = c.args.routes.now in
     let test = meet_at S (plan_of S rs) in
-    c.first_pair.ensures test (λ t i j h l m b e. let same = meets_same S rs t i j (omega (arith, c.horizon-instants.ensures)) l (omega (arith, c.sleds.ensures)) in search rules)
+    c.first_pair.ensures test (λ p h l m b e. let same = meets_same S rs p.instant p.first p.second (omega (arith, c.horizon-instants.ensures)) l (omega (arith, c.sleds.ensures)) in search rules)
     ∙ ap₂ (λ (a b : ℕ). scanned a test (b + 1)) c.sleds.ensures c.horizon-instants.ensures

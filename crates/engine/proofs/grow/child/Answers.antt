@@ -1,9 +1,9 @@
-use Rattle.std.proofs.Common.{◌≡◌, ℕ, ◌<◌, List, ◌∷◌, length, get_or, set, None, Some, Option, sym, refl, ap, ◌∙◌, subst, arith}
+use Rattle.std.proofs.Common.{◌≡◌, ℕ, ◌<◌, ◌∷◌, length, get_or, set, None, Some, Option, sym, refl, ap, ◌∙◌, subst, arith}
 use Rattle.engine.specs.declared.node.Node.{Node}
 use Rattle.engine.specs.WellFormed.{MadeWellFormed}
 use Rattle.tree.specs.Constraints as constraints
 use Rattle.tree.specs.Plans.{Plan}
-use Rattle.engine.specs.Table.{plan_of, sled_constraint_of, blank, empty}
+use Rattle.engine.specs.Table.{plan_of, sled_constraint_of, blank}
 use Rattle.engine.proofs.Trails.{timely_fits, trail_timely, more_timely}
 use Rattle.engine.proofs.Forming.{formed_child}
 use Rattle.engine.proofs.Growing.{made_none, made_some, child_none, child_some}
@@ -34,7 +34,7 @@ returns-in_err-route g c = record {
 
 pub returns : goal.returns
 returns g c = record {
-  formed = λ k h. formed_child k c.args.number c.args.own h (timely_fits (g.P.Problem.model c.args.problem.now).setting c.args.own.constraint (g.met.P.Problem.keeps c.args.problem.now).short c.requires.lies.1);
+  formed = λ k h. formed_child k record { parent = c.args.number; own = c.args.own } h (timely_fits (g.P.Problem.model c.args.problem.now).setting c.args.own.constraint (g.met.P.Problem.keeps c.args.problem.now).short c.requires.lies.1);
   as_made = λ xs k t h.
       let m = g.P.Problem.model c.args.problem.now in
       let nodes = c.args.table.now.nodes in
@@ -44,7 +44,7 @@ returns g c = record {
       let known : c.args.number < length nodes.items = omega (arith, nodes.ok.0, c.requires.known) in
       let times = more_timely m.setting b.sled b tr c.requires.lies.1 (trail_timely m nodes.items xs t c.args.number known) in
       made_some m tr (sled_constraint_of b ∷ tr) k c.args.number _
-      (ap {B = Option Plan} (λ (ns : List Node). Some (plan_of m.setting (set (get_or ns c.args.number empty).routes b.sled c.in_ok-route.route))) c.records.ensures.value
+      (ap {B = Option Plan} (λ (n : Node). Some (plan_of m.setting (set n.routes b.sled c.in_ok-route.route))) c.node.ensures
       ∙ child_some m nodes.items xs t c.args.number known b c.requires.lies.0 c.in_ok-route.route (c.in_ok-route.ensures bs (c.collect-forbidden.ensures m xs t) times))
       refl refl refl c.total_cost-sum.ensures (λ _. h) c.requires.lies;
 }

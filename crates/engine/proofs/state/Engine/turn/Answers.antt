@@ -1,4 +1,4 @@
-use Rattle.std.proofs.Common.{ℕ, List, get_or, Some, None, sym, refl, ap, ◌∙◌, subst, arith}
+use Rattle.std.proofs.Common.{ℕ, get_or, Some, None, sym, refl, ap, ◌∙◌, subst, arith}
 use Rattle.tree.specs.Conflicts as conflicts
 use Rattle.tree.specs.Tree as tree
 use Rattle.engine.specs.declared.node.Node.{Node}
@@ -17,7 +17,7 @@ expand-requires g c =
     record {
       room = (c.in-Working-Some.ensures.below, omega (arith, e.high, c.len.ensures));
       real = real_conflict m.setting (plan_of m.setting (get_or e.table.nodes.items k empty).routes) c.in-Some.conflict
-          (c.in-Some.ensures ∙ ap (λ (ns : List Node). conflicts.first_conflict m.setting (plan_of m.setting (get_or ns k empty).routes)) c.records.ensures.value);
+          (c.in-Some.ensures ∙ ap (λ (n : Node). conflicts.first_conflict m.setting (plan_of m.setting n.routes)) c.node.ensures);
     }
 
 pub returns-in-Working-None : goal.returns-in-Working-None
@@ -37,7 +37,7 @@ returns-in-None g c =
     let v = e.table.nodes in
     let k = c.in-Working-Some.number in
     let best = subst (λ (n : ℕ). CheapestSoFar v.items n (Some k)) v.ok.0 c.in-Working-Some.ensures in
-    let told = c.in-None.ensures ∙ ap (λ (ns : List Node). conflicts.first_conflict m.setting (plan_of m.setting (get_or ns k empty).routes)) c.records.ensures.value in
+    let told = c.in-None.ensures ∙ ap (λ (n : Node). conflicts.first_conflict m.setting (plan_of m.setting n.routes)) c.node.ensures in
     record {
       goes = λ t f. turn_solved m e.limit v.items t (subst (λ (w : Verdict). Follows m v.items w t) c.in-Working-Some.is-0 f) k best told;
       same_limit = refl;
@@ -50,7 +50,7 @@ returns-then-len-self g c =
     let v = e.table.nodes in
     let k = c.in-Working-Some.number in
     let best = subst (λ (n : ℕ). CheapestSoFar v.items n (Some k)) v.ok.0 c.in-Working-Some.ensures in
-    let told = c.in-Some.ensures ∙ ap (λ (ns : List Node). conflicts.first_conflict m.setting (plan_of m.setting (get_or ns k empty).routes)) c.records.ensures.value in
+    let told = c.in-Some.ensures ∙ ap (λ (n : Node). conflicts.first_conflict m.setting (plan_of m.setting n.routes)) c.node.ensures in
     record {
       goes = λ t f. turn_full m e.limit v.items t (subst (λ (w : Verdict). Follows m v.items w t) c.in-Working-Some.is-0 f) k best c.in-Some.conflict told (omega (arith, v.ok.0, c.len.ensures, c.if-len-self.true));
       same_limit = refl;
@@ -63,7 +63,7 @@ returns-else-len-self g c =
     let v = e.table.nodes in
     let k = c.in-Working-Some.number in
     let best = subst (λ (n : ℕ). CheapestSoFar v.items n (Some k)) v.ok.0 c.in-Working-Some.ensures in
-    let told = c.in-Some.ensures ∙ ap (λ (ns : List Node). conflicts.first_conflict m.setting (plan_of m.setting (get_or ns k empty).routes)) c.records.ensures.value in
+    let told = c.in-Some.ensures ∙ ap (λ (n : Node). conflicts.first_conflict m.setting (plan_of m.setting n.routes)) c.node.ensures in
     let after = c.expand.new.self.nodes.items in
     record {
       goes = λ t f.
