@@ -28,13 +28,13 @@ pub(crate) fn ends_of(job: &Job) -> [Ends; MAX_SLEDS]
 fn ends_at(job: &Job, number: usize) -> Ends
     ensures { EndsAre (sled_of job.now number) result }
 {
-    match job.sled(number) {
-        Some(sled) => Ends {
+    job.sled(number).map_or(
+        NOWHERE,
+        |sled| Ends {
             start: u8::from(sled.start),
             goal: u8::from(sled.goal),
         },
-        None => NOWHERE,
-    }
+    )
 }
 
 // The first sled that cannot stand at its start or at its goal.
@@ -46,12 +46,16 @@ pub(crate) fn first_stuck(
     requires { count ≤ 6 }
     ensures { FirstWithout (both_stand standing.now ends.now) count result }
 {
-    (0..count).find(|sled| !stands_at_both(&standing[*sled], ends[*sled]))
+    standing
+        .iter()
+        .zip(ends)
+        .take(count)
+        .position(|(places, ends)| !stands_at_both(places, *ends))
 }
 
 // Whether a sled that may stand at these places may stand at both of its ends.
 fn stands_at_both(places: &[bool; BOARD_PLACES], ends: Ends) -> bool
     ensures { result ≡ (slice_index_or places.now ends.start false && slice_index_or places.now ends.goal false) }
 {
-    places[ends.start as usize] & places[ends.goal as usize]
+    places[ends.start as usize] && places[ends.goal as usize]
 }

@@ -8,6 +8,7 @@ use Rattle.tree.proofs.Turns.{counted}
 use Rattle.engine.specs.declared.state.Engine.{Engine}
 use Rattle.engine.specs.Engine.{IsAt, Answers}
 use Rattle.plans.specs.Tasks.{Task}
+use Rattle.instance.specs.declared.instance.Instance.{Instance}
 use Rattle.instance.specs.Instances.{task_in, model_of}
 use Rattle.search.specs.declared.state.Search.{Search}
 use Rattle.search.specs.declared.state.Opened.{Opened}
@@ -18,6 +19,10 @@ module _ {F R : Type 0} (sets : R → Sets) (s : Search F R) {A : Type 0} {W : (
   -- what there is to show of a search where something is opened
   pub when_open : (x : Opened) → s.opened ≡ Some x → ((K : Task) (limit n : ℕ) → (o : OpenedAt sets s K limit n) → o.holds ≡ x → W K limit n) → ByState sets s A W
   when_open x e h = record { idle = λ i. absurd (none-some x (sym i ∙ e)); opened = λ K limit n o. h K limit n o (same_Some o.holds x (sym o.is_open ∙ e)) }
+
+-- a problem's instance and rule make its model
+pub same_model : {R : Type 0} (sets : R → Sets) (i k : Instance) (r q : R) → i ≡ k → r ≡ q → model_of (task_in i) (sets r) ≡ model_of (task_in k) (sets q)
+same_model sets i k r q e f = λ j. model_of (task_in (e j)) (sets (f j))
 
 module _ {F R : Type 0} (sets : R → Sets) (s : Search F R) (x : Opened) (K : Task) (limit n : ℕ) (o : OpenedAt sets s K limit n) (held : o.holds ≡ x) where
   pub same_task : task_in x.instance ≡ K

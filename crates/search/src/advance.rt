@@ -4,7 +4,6 @@ ghost use Rattle.search.specs.Advancing.{Advances};
 use crate::Search;
 use fault::cause::{Cause, Fault};
 use fleet::Fleet;
-use instance::ruled::Ruled;
 use split::SplitRule;
 
 impl<F: Fleet, R: SplitRule> Search<F, R> {
@@ -15,10 +14,7 @@ impl<F: Fleet, R: SplitRule> Search<F, R> {
         let Some(opened) = self.opened.as_mut() else {
             return Err(Cause::WrongState.at(0));
         };
-        let problem = Ruled {
-            instance: &opened.instance,
-            rule: &self.rule,
-        };
+        let problem = opened.problem(&self.rule);
         let made = self.engine.advance(&problem, count)?;
         opened.turns = opened.turns.saturating_add(made);
         Ok(made)

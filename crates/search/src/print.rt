@@ -9,7 +9,6 @@ use engine::node::Route;
 use engine::problem::Problem;
 use fault::cause::{Cause, Fault};
 use fleet::Fleet;
-use instance::ruled::Ruled;
 use lines::outcome::Outcome;
 use lines::report::{MAX_INSTANTS, MAX_SLEDS, Report, write_report};
 use split::SplitRule;
@@ -26,10 +25,7 @@ impl<F: Fleet, R: SplitRule> Search<F, R> {
         let Some(outcome) = self.outcome() else {
             return Err(Cause::WrongState.at(0));
         };
-        let problem = Ruled {
-            instance: &opened.instance,
-            rule: &self.rule,
-        };
+        let problem = opened.problem(&self.rule);
         let routes = plan(&self.engine, &problem);
         let sleds = problem.sleds();
         let report = Report {
@@ -65,7 +61,7 @@ impl<F: Fleet, R: SplitRule> Search<F, R> {
     }
 }
 
-// The routes of the solved node; there are more of them, and longer ones, than count.
+// A route for each sled that there can be. Only those of the problem's sleds count, and of each only the instants up to the horizon.
 fn plan<P: Problem>(engine: &Engine, problem: &P) -> [Route; MAX_SLEDS]
     ensures { TellsRoutes (P.Problem.model problem.now) engine.now 6 result }
 {

@@ -5,7 +5,6 @@ use crate::Search;
 use engine::problem::Problem;
 use fault::cause::{Cause, Fault};
 use fleet::Fleet;
-use instance::ruled::Ruled;
 use split::SplitRule;
 use walk::count::Count;
 use walk::errand::Errand;
@@ -29,7 +28,7 @@ impl<'a, P: Problem> Steps<bool> for SledSteps<'a, P> {
 }
 
 impl<F: Fleet, R: SplitRule> Search<F, R> {
-    // The number of routes of least cost of a sled, at most 65,535. They are counted in the first 256 entries of two rows, which then
+    // The number of routes of least cost of a sled, at most 65,535. The count takes no rows; the first 256 entries of both rows then
     // hold 0.
     pub fn routes(&self, sled: usize, row: &mut [Count], spare: &mut [Count]) -> Result<u16, Fault>
         ensures { Counts sled row.old spare.old row.new spare.new R.SplitRule.sets self.now result }
@@ -37,10 +36,7 @@ impl<F: Fleet, R: SplitRule> Search<F, R> {
         let Some(opened) = &self.opened else {
             return Err(Cause::WrongState.at(0));
         };
-        let problem = Ruled {
-            instance: &opened.instance,
-            rule: &self.rule,
-        };
+        let problem = opened.problem(&self.rule);
         if sled >= problem.sleds() {
             return Err(Cause::NumberTooHigh.at(0));
         }

@@ -6,7 +6,6 @@ use crate::verdict::Verdict;
 use fault::cause::{Cause, Fault};
 use fleet::Fleet;
 use grid::place::Place;
-use instance::ruled::Ruled;
 use split::SplitRule;
 
 impl<F: Fleet, R: SplitRule> Search<F, R> {
@@ -14,10 +13,10 @@ impl<F: Fleet, R: SplitRule> Search<F, R> {
     pub fn bound(&self) -> Result<Option<u16>, Fault>
         ensures { TellsBound R.SplitRule.sets self.now result }
     {
-        match self.opened {
-            Some(_) => Ok(self.engine.bound()),
-            None => Err(Cause::WrongState.at(0)),
-        }
+        let Some(_) = self.opened else {
+            return Err(Cause::WrongState.at(0));
+        };
+        Ok(self.engine.bound())
     }
 
     pub fn verdict(&self) -> Verdict
@@ -36,10 +35,7 @@ impl<F: Fleet, R: SplitRule> Search<F, R> {
         let Some(opened) = &self.opened else {
             return Err(Cause::NotSolved.at(0));
         };
-        let problem = Ruled {
-            instance: &opened.instance,
-            rule: &self.rule,
-        };
+        let problem = opened.problem(&self.rule);
         let number = self.engine.place(&problem, sled, instant)?;
         Ok(Place::from(number))
     }
@@ -51,10 +47,7 @@ impl<F: Fleet, R: SplitRule> Search<F, R> {
         let Some(opened) = &self.opened else {
             return Err(Cause::NotSolved.at(0));
         };
-        let problem = Ruled {
-            instance: &opened.instance,
-            rule: &self.rule,
-        };
+        let problem = opened.problem(&self.rule);
         self.engine.makespan(&problem).ok_or(Cause::NotSolved.at(0))
     }
 }

@@ -5,8 +5,8 @@ ghost use Rattle.search.specs.Words.{verdict_of};
 
 use engine::call::Status;
 
-// The words in which a search is told, side by side and not as an option of the tree's four: nothing is opened; it goes on; it has
-// found the plan; there is no plan to find; there is no room for more nodes.
+// Nothing is opened; it goes on; it has found the plan; there is no plan to find; there is no room for more nodes. An option of the
+// tree's four words is no plainer: a search that has not ended would then be told as None or as Some(Working).
 #[derive(Clone, Copy, PartialEq, Debug)]
 pub enum Verdict {
     Idle,

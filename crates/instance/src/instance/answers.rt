@@ -57,10 +57,10 @@ impl Instance {
     pub(crate) fn stands(&self, sled: usize, place: u8) -> bool
         ensures { result ≡ stands_at (task_in self.now) sled place }
     {
-        match self.standing.get(sled) {
-            Some(places) => places[place as usize],
-            None => self.floor.has(Place::from(place)),
-        }
+        self.standing.get(sled).map_or_else(
+            || self.floor.has(Place::from(place)),
+            |places| places[place as usize],
+        )
     }
 
     // The differences of a lower and a higher sled of the fleet.
@@ -79,20 +79,20 @@ impl Instance {
     pub(crate) fn share_cell(&self, pair: Pair) -> bool
         ensures { result ≡ share_cell (tabled_sleds self.now.fleet pair.i) (position_of pair.u) (tabled_sleds self.now.fleet pair.j) (position_of pair.v) }
     {
-        match self.differences(pair) {
-            Some(differences) => differences.shares_cell(pair.u, pair.v),
-            None => shares_cell(&self.fleet, pair),
-        }
+        self.differences(pair).map_or_else(
+            || shares_cell(&self.fleet, pair),
+            |differences| differences.shares_cell(pair.u, pair.v),
+        )
     }
 
     // Whether the two sleds collide, where the first moves by a and the second by b.
     fn collide_moving(&self, pair: Pair, a: Move, b: Move) -> bool
         ensures { result ≡ collide (tabled_sleds self.now.fleet pair.i) (position_of pair.u) a (tabled_sleds self.now.fleet pair.j) (position_of pair.v) b }
     {
-        match self.differences(pair) {
-            Some(differences) => differences.collides(pair.u, a, pair.v, b),
-            None => collides(&self.fleet, pair, a, b),
-        }
+        self.differences(pair).map_or_else(
+            || collides(&self.fleet, pair, a, b),
+            |differences| differences.collides(pair.u, a, pair.v, b),
+        )
     }
 
     // Whether two sleds meet where they are.

@@ -1,5 +1,4 @@
-use Rattle.std.proofs.Common.{Bool, false, List, [], get_or, sym, ap, ◌∙◌, arith}
-use Rattle.grid.specs.declared.position.Position.{Position}
+use Rattle.std.proofs.Common.{◌≡◌, Bool, false, List, [], get_or, Some, None, Option, MatchOption, Bor, sym, ap, ◌∙◌, arith, rules}
 use Rattle.grid.specs.Floors.{on_floor}
 use Rattle.grid.specs.Places.{position_at}
 use Rattle.tables.specs.TabledFleets.{tabled_sleds}
@@ -7,17 +6,21 @@ use Rattle.plans.specs.Instance.{stands_at}
 use Rattle.instance.specs.Absent.{absent, nothing_stands}
 use Rattle.instance.proofs.instance.Instance.stands.Goals as goal
 
-pub returns-in-None : goal.returns-in-None
+by_row : (r meant : Bool) (o : Option (Bor (List Bool))) (N P : Type 0) (Y Q : Bor (List Bool) → Type 0) → MatchOption o N Y → MatchOption o P Q → (N → P → r ≡ meant) → ((x : Bor (List Bool)) → Y x → Q x → r ≡ meant) → r ≡ meant
+by_row r meant None N P Y Q looked told none some = none looked told
+by_row r meant (Some x) N P Y Q looked told none some = some x looked told
+
+pub returns : goal.returns
 unfolding stands_at
-returns-in-None c =
+returns c =
     let i = c.args.self.now in
     let s = c.args.sled in
-    c.has.ensures
-    ∙ ap (λ (u : Position). on_floor i.floor u.column u.row) c.from.ensures.place
-    ∙ sym (nothing_stands (tabled_sleds i.fleet s) i.floor (position_at c.args.place) (absent i.fleet s (omega (arith, i.fleet.few, c.in-None.ensures.lookup.3))))
-
-pub returns-in-Some : goal.returns-in-Some
-unfolding stands_at
-returns-in-Some c =
-    let (below, is) = c.in-Some.ensures.lookup.3 in
-    ap (λ (places : List Bool). get_or places c.args.place false) (is []) ∙ c.args.self.now.stands c.args.sled c.args.place (omega arith, omega arith)
+    let u = position_at c.args.place in
+    let r = c.map_or_else.result in
+    by_row r _ c.get.result _ _ _ _ c.get.ensures.lookup.3 c.map_or_else.ensures
+    (λ past told.
+    let is : r ≡ on_floor i.floor u.column u.row = search rules in
+    is ∙ sym (nothing_stands (tabled_sleds i.fleet s) i.floor u (absent i.fleet s (omega (arith, i.fleet.few, past)))))
+    (λ x (below, is_at) told.
+    let is : r ≡ get_or x.now c.args.place false = search rules in
+    is ∙ ap (λ (places : List Bool). get_or places c.args.place false) (is_at []) ∙ i.stands s c.args.place (omega arith, omega arith))

@@ -1,8 +1,11 @@
-use Rattle.std.proofs.Common.{◌≡◌, ◌∙◌}
+use Rattle.std.proofs.Common.{◌≡◌, ◌∙◌, subst}
 use Rattle.std.specs.Option.{ok_or}
 use Rattle.fault.specs.declared.cause.Cause.TheVariants.{NotSolved}
 use Rattle.fault.specs.Causes.{fault_at}
-use Rattle.search.proofs.Going.{when_open}
+use Rattle.tree.specs.Tree.{Tree}
+use Rattle.engine.specs.Engine.{IsAt, makespan_told}
+use Rattle.engine.specs.Model.{Model}
+use Rattle.search.proofs.Going.{when_open, same_model}
 use Rattle.search.proofs.Lasting.{lasts_at, greatest_cost_at}
 use Rattle.search.proofs.state.Search.makespan.Goals as goal
 
@@ -12,9 +15,12 @@ returns g c =
     let x = c.in-Some.opened in
     let sets = g.R.SplitRule.sets in
     let met = g.met.R.SplitRule in
+    let p = c.problem-problem.result in
+    let same = same_model sets p.instance.now x.instance p.rule.now s.rule c.problem-problem.ensures.instance_is c.problem-problem.ensures.rule_is in
+    let made = subst (λ (m : Model). (t : Tree) → IsAt m s.engine t → c.makespan.result ≡ makespan_told m.setting t.nodes t.verdict) same c.makespan.ensures in
     let told : c.ok_or.result ≡ ok_or c.makespan.result (fault_at NotSolved 0) = cc in
     when_open sets s x c.in-Some.is
     (λ K limit n o held. (
-      told ∙ lasts_at sets s x K limit n o held c.makespan.result c.makespan.ensures,
+      told ∙ lasts_at sets s x K limit n o held c.makespan.result made,
       greatest_cost_at sets s x K limit n o held (record { holds_u = met.lower s.rule; holds_v = met.upper s.rule; all_share = met.share s.rule; only_meeting = met.only s.rule }),
     ))

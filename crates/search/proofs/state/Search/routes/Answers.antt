@@ -1,5 +1,6 @@
-use Rattle.std.proofs.Common.{◌<◌, subst, arith}
+use Rattle.std.proofs.Common.{◌<◌, ap, ◌∙◌, subst, arith}
 use Rattle.plans.specs.Tasks.{Task}
+use Rattle.instance.specs.declared.instance.Instance.{Instance}
 use Rattle.instance.specs.Instances.{task_in}
 use Rattle.search.specs.Counting.{CountsOf}
 use Rattle.search.proofs.Counting.{counts}
@@ -17,9 +18,9 @@ returns g c =
     let row' = c.count_routes.new.row in
     let spare' = c.count_routes.new.spare in
     let r = c.count_routes.result in
-    let K₀ = task_in x.instance in
+    let K₀ = task_in c.problem-problem.result.instance.now in
     let below : s < K₀.sleds = omega (arith, c.sleds.ensures, c.if-sled-sleds.false) in
     when_open sets all x c.in-Some.is
     (λ K limit n o held.
-    subst (λ (k : Task). CountsOf s row spare row' spare' k r) (same_task sets all x K limit n o held)
+    subst (λ (k : Task). CountsOf s row spare row' spare' k r) (ap (λ (i : Instance). task_in i) c.problem-problem.ensures.instance_is ∙ same_task sets all x K limit n o held)
     (counts s row spare row' spare' K₀ below c.horizon.result.steps c.start.result c.goal.result c.horizon.ensures c.start.ensures c.goal.ensures r c.count_routes.ensures))
