@@ -5,9 +5,7 @@ use Rattle.geometry.specs.declared.pair.Pair.{Pair}
 use Rattle.split.specs.declared.pair.Side.{Side}
 use Rattle.split.specs.declared.pair.Side.TheVariants.{Lower, Upper}
 use Rattle.split.specs.Situations.{Sets, situation}
-use Rattle.tables.specs.declared.tabled.Tabled.{Tabled}
 use Rattle.tables.specs.TabledFleets.{tabled_sleds}
-use Rattle.plans.specs.Tasks.{Task}
 use Rattle.plans.specs.Instance.{situation_at, in_set, SplitTerms}
 use Rattle.instance.specs.declared.instance.Instance.{Instance}
 use Rattle.instance.specs.Instances.{task_in}
