@@ -1,6 +1,5 @@
 -- Where the tables say that a sled stands at its start and at its goal, it does so in the task of the job.
-use Rattle.std.proofs.Common.{◌≡◌, ℕ, ◌<◌, ◌≤◌, Bool, true, false, List, [], get_or, Decides, sym, ◌∙◌, arith}
-use Rattle.std.proofs.lemmas.Bool.{and_parts}
+use Rattle.std.proofs.Common.{◌≡◌, ℕ, ◌<◌, Bool, false, List, [], get_or, Decides, ◌∙◌}
 use Rattle.std.proofs.lemmas.Bool.Decides.{Decides-at, Decides-and}
 use Rattle.grid.specs.declared.floor.Floor.{Floor}
 use Rattle.grid.specs.declared.position.Position.{Position}
@@ -12,16 +11,10 @@ use Rattle.plans.specs.Tasks.{task_of}
 use Rattle.instance.specs.declared.ends.Ends.{Ends}
 use Rattle.instance.specs.Ends.{ends_at, EndsOf, both_stand}
 use Rattle.instance.specs.Numbers.{Numbers}
-use Rattle.instance.specs.Worked.{AllStand, StandsTold}
+use Rattle.instance.specs.Worked.{StandsTold}
 use Rattle.instance.specs.Instances.{EndsStand}
 
 module _ (job : Job) (sleds : Sleds) (floor : Floor) (standing : List (List Bool)) (told : StandsTold sleds floor standing) (ends : List Ends) (of_job : EndsOf job ends) where
-  pub all_stand : (count : ℕ) → count ≤ 6 → ((s : ℕ) → s < count → both_stand standing ends s ≡ true) → AllStand sleds floor count ends
-  all_stand count few all s below =
-      let at = of_job s in
-      let (start, goal) = and_parts (get_or (get_or standing s []) (ends_at ends s).start false) _ (all s below) in
-      (sym (told s (ends_at ends s).start (omega arith, at.start.0)) ∙ start, sym (told s (ends_at ends s).goal (omega arith, at.goal.0)) ∙ goal)
-
   -- the fleet and the floor that the tables were made of have the offsets and the cells of the task
   module _ (offsets : Sleds) (near : AllNear offsets) (same : sleds ≡ offsets) (laid : floor ≡ job.floor) where
     at_number : (s n : ℕ) (u : Position) → s < 6 → Numbers n u → Decides (get_or (get_or standing s []) n false) (Standing (offsets s) job.floor u)

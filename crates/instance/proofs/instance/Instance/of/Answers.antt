@@ -3,7 +3,7 @@ use Rattle.std.proofs.lemmas.Bool.{both_ways}
 use Rattle.tables.specs.TabledFleets.{tabled_sleds}
 use Rattle.instance.specs.Instances.{FitsJob}
 use Rattle.instance.proofs.Past.{some_sleds, few_sleds}
-use Rattle.instance.proofs.Making.{ends_told, all_stand}
+use Rattle.instance.proofs.Making.{ends_told}
 use Rattle.instance.proofs.instance.Instance.of.Goals as goal
 
 pub returns-in-Some : goal.returns-in-Some
@@ -26,22 +26,6 @@ returns-in-Some g c =
         c.at-in-Some.ensures,
       ),
     )
-
-pub invariant_of-result : goal.invariant_of-result
-invariant_of-result g c =
-    let job = c.args.job.now in
-    let t = c.of-fleet.result in
-    let floor = c.floor-floor.result in
-    let standing = c.standings_of-standing.result in
-    let told = c.standings_of-standing.ensures in
-    let ends = c.ends_of-ends.result in
-    let of_job = c.ends_of-ends.ensures in
-    let as_many = c.of-fleet.ensures.count ∙ sym c.count.ensures ∙ c.if-count.false in
-    record {
-      ends_stand = all_stand job (tabled_sleds t) floor standing told ends of_job t.count t.few (λ s below. c.in_default.ensures s (omega (arith, as_many)));
-      stands = told;
-      paired = ∣ c.pairs_of.ensures ∣₁;
-    }
 
 pub returns : goal.returns
 returns g c =
