@@ -16,7 +16,7 @@ pub(crate) struct Ends {
 }
 
 // Of a sled that the job does not have, both are 0.
-const NOWHERE: Ends = Ends { start: 0, goal: 0 };
+pub(crate) const NOWHERE: Ends = Ends { start: 0, goal: 0 };
 
 pub(crate) fn ends_of(job: &Job) -> [Ends; MAX_SLEDS]
     ensures { EndsOf job.now result }
