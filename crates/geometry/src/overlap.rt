@@ -13,6 +13,7 @@ pub(crate) struct Apart {
     ghost down: { Far y },
 }
 
+// By name and not by number, as the definition of an overlap has them.
 #[derive(Clone, Copy)]
 enum Moment {
     Start,

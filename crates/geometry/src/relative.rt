@@ -15,6 +15,7 @@ pub struct Step {
 }
 
 // The first sled's move less the second's, across and down, by the two moves: north, west, wait, east, south.
+// Written out: it is a table to be read beside the definition, and to be looked up in one step.
 const RELATIVE: [[(i8, i8); 5]; 5] = [
     [(0, 0), (1, -1), (0, -1), (-1, -1), (0, -2)],
     [(-1, 1), (0, 0), (-1, 0), (-2, 0), (-1, -1)],

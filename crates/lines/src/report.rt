@@ -12,6 +12,7 @@ pub const MAX_SLEDS: usize = 6;
 pub const MAX_INSTANTS: usize = 64;
 
 // The outcome, the turns made, and the route of each sled by place numbers at the instants from 0 to the last one.
+// The last instant stands beside the rows: they are lent as the caller holds them, in memory of one size for every horizon.
 #[derive(Clone, Copy)]
 pub struct Report<'a> {
     pub outcome: Outcome,

@@ -31,6 +31,7 @@ impl SplitRule for OneSided {
 
     ghost only = { Prim.search rules };
 
+    // As with single places but for the upper side; a function for both would take that side as a closure.
     fn contains<F: Fleet>(&self, fleet: &F, pair: Pair, side: Side, w: Place) -> bool {
         do_meet(fleet, pair)
             && match side {
