@@ -44,10 +44,9 @@ fn plan(rt: &HostRuntime, job: &Job) -> anyhow::Result<()> {
     }
     let mut lines = [0; LINES_BUFFER];
     match search.print(&mut lines) {
-        Ok(length) => rt.stdout().write_all(&lines[0..length.min(LINES_BUFFER)])?,
-        Err(fault) => return refuse(rt, fault),
+        Ok(length) => put(rt, &lines, length),
+        Err(fault) => refuse(rt, fault),
     }
-    Ok(())
 }
 
 // The job, where its sleds stand, and the route of each as if the others were not there.
@@ -62,7 +61,13 @@ fn check(rt: &HostRuntime, job: &Job) -> anyhow::Result<()> {
 fn refuse(rt: &HostRuntime, fault: Fault) -> anyhow::Result<()> {
     let mut lines = [0; LINES_BUFFER];
     if let Ok(length) = write_refusal(fault, &mut lines) {
-        rt.stdout().write_all(&lines[0..length])?;
+        put(rt, &lines, length)?;
     }
     Err(anyhow!("refused"))
+}
+
+// The first so many bytes of the lines on standard output.
+fn put(rt: &HostRuntime, lines: &[u8; LINES_BUFFER], length: usize) -> anyhow::Result<()> {
+    rt.stdout().write_all(&lines[..length.min(LINES_BUFFER)])?;
+    Ok(())
 }
