@@ -1,11 +1,11 @@
 -- Histories keep the law of runs.
-use Rattle.std.proofs.Common.{◌≡◌, ℕ, zero, suc, ◌+◌, ◌<◌, ◌≤◌, Bool, true, false, cond, not, Some, None, Ok, Err, ◌&&◌, eqb, ltb, List, [], ◌∷◌, ◌++◌, length, take, sym, refl, ap, ◌∙◌, subst, ap₂, inl, inr, true≢false, arith}
+use Rattle.std.proofs.Common.{◌≡◌, ℕ, zero, suc, ◌+◌, ◌<◌, ◌≤◌, Bool, true, false, cond, not, Some, Ok, ◌&&◌, eqb, ltb, List, [], ◌∷◌, ◌++◌, length, take, sym, refl, ap, ◌∙◌, subst, ◌⊎◌, ⊎_elim, inl, inr, true≢false, arith}
 use Rattle.std.specs.List.{range_with_len}
 use Rattle.std.proofs.lemmas.List.{append-nil}
 use Rattle.std.proofs.lemmas.Bool.{and_parts, not-true, eqb-true}
 use Rattle.deck.specs.declared.state.Deck.{Deck}
 use Rattle.deck.specs.declared.slip.SlipNumbers.{SlipNumbers}
-use Rattle.deck.specs.declared.call.Done.TheVariants.{Released, Moved, Finished, Recalled}
+use Rattle.deck.specs.declared.call.Done.TheVariants.{Released, Finished, Recalled}
 use Rattle.deck.specs.Decks.{ready, gone_out, slip_of, freed, fits}
 use Rattle.deck.specs.Law.{Told, Grants, deck_after, History, given, taken, Gives, Takes, out_on, HistoriesAreLawful}
 
@@ -17,12 +17,6 @@ fits_out : (s : SlipNumbers) (d : Deck) → fits s d ≡ true → (d.is_out ≡ 
 fits_out s d e =
     let (out, both) = and_parts d.is_out (eqb s.name d.name && eqb s.run d.runs) e in
     (out, eqb-true s.run d.runs (and_parts (eqb s.name d.name) (eqb s.run d.runs) both).1)
-
-out_none : (d : Deck) → d.is_out ≡ false → out_on d ≡ []
-out_none d e = ap {B = List ℕ} (λ b. cond b (d.runs ∷ []) []) e
-
-out_one : (d : Deck) → d.is_out ≡ true → out_on d ≡ d.runs ∷ []
-out_one d e = ap {B = List ℕ} (λ b. cond b (d.runs ∷ []) []) e
 
 out_few : (d : Deck) → length (out_on d) ≤ 1
 out_few d = few d.is_out
@@ -40,7 +34,7 @@ module _ (d : Deck) (x : SlipNumbers) (fit : fits x d ≡ true) where
   run_is = (fits_out x d fit).1
 
   took : (gs ts : List ℕ) → gs ≡ ts → out_on d ++ gs ≡ x.run ∷ ts
-  took gs ts e = ap {B = List ℕ} (λ l. l ++ gs) (out_one d was_out) ∙ ap₂ {C = List ℕ} (λ (r : ℕ) (l : List ℕ). r ∷ l) (sym run_is) e
+  took gs ts e = rw (was_out, run_is, e)
 
 -- of a deck that gave a slip
 module _ (d : Deck) (x : SlipNumbers) (free : ready d ≡ true) (new : x ≡ (slip_of d x.last).numbers) where
@@ -48,26 +42,20 @@ module _ (d : Deck) (x : SlipNumbers) (free : ready d ≡ true) (new : x ≡ (sl
   next_run = ap (λ (y : SlipNumbers). y.run) new
 
   gave : (gs : List ℕ) → out_on d ++ (x.run ∷ gs) ≡ (d.runs + 1) ∷ gs
-  gave gs = ap {B = List ℕ} (λ l. l ++ (x.run ∷ gs)) (out_none d (ready_free d free)) ∙ ap {B = List ℕ} (λ r. r ∷ gs) next_run
+  gave gs = rw (ready_free d free, next_run)
 
 -- what was out or given was taken, or is out
 balance : (d e : Deck) (rs : List Told) → History d rs e → out_on d ++ given rs ≡ taken rs ++ out_on e
 balance d e [] h = append-nil (out_on d) ∙ ap out_on (sym h)
 balance d e (Some (Ok (Released x)) ∷ rs) h = gave d x h.0.0 h.0.1 (given rs) ∙ balance (gone_out d) e rs h.1
-balance d e (Some (Ok (Moved x)) ∷ rs) h = balance d e rs h.1
 balance d e (Some (Ok (Finished x)) ∷ rs) h = took d x h.0.0 (given rs) (taken rs ++ out_on e) (balance (freed d) e rs h.1)
 balance d e (Some (Ok (Recalled x)) ∷ rs) h = took d x h.0 (given rs) (taken rs ++ out_on e) (balance (freed d) e rs h.1)
-balance d e (Some (Err f) ∷ rs) h = balance d e rs h.1
-balance d e (None ∷ rs) h = balance d e rs h.1
+balance d e (a ∷ rs) h = balance d e rs h.1
 
 gapless : (d e : Deck) (rs : List Told) → History d rs e → given rs ≡ range_with_len (d.runs + 1) (length (given rs))
 gapless d e [] h = refl
-gapless d e (Some (Ok (Released x)) ∷ rs) h = ap₂ {C = List ℕ} (λ (r : ℕ) (l : List ℕ). r ∷ l) (next_run d x h.0.0 h.0.1) (gapless (gone_out d) e rs h.1)
-gapless d e (Some (Ok (Moved x)) ∷ rs) h = gapless d e rs h.1
-gapless d e (Some (Ok (Finished x)) ∷ rs) h = gapless (freed d) e rs h.1
-gapless d e (Some (Ok (Recalled x)) ∷ rs) h = gapless (freed d) e rs h.1
-gapless d e (Some (Err f) ∷ rs) h = gapless d e rs h.1
-gapless d e (None ∷ rs) h = gapless d e rs h.1
+gapless d e (Some (Ok (Released x)) ∷ rs) h = rw (next_run d x h.0.0 h.0.1) (ap {B = List ℕ} (λ l. (d.runs + 1) ∷ l) (gapless (gone_out d) e rs h.1))
+gapless d e (a ∷ rs) h = gapless (deck_after d a) e rs h.1
 
 -- the first answers have a history of their own
 first : (k : ℕ) (d e : Deck) (rs : List Told) → History d rs e → (m : Deck) × History d (take k rs) m
@@ -84,6 +72,13 @@ taken_now d a r h (x, inr n, q) =
     let fit = subst (λ (b : Told). Grants d b) n h in
     (was_out d x fit, sym (run_is d x fit) ∙ q, ap (deck_after d) n)
 
+-- runs only go up, and a deck that goes out goes out on the next
+up : (d : Deck) (a : Told) → (d.runs ≤ (deck_after d a).runs) × (d.is_out ≡ false → ((deck_after d a).is_out ≡ false) ⊎ (d.runs < (deck_after d a).runs))
+up d (Some (Ok (Released x))) = (omega arith, λ f. inr (omega arith))
+up d (Some (Ok (Finished x))) = (omega arith, λ f. inl refl)
+up d (Some (Ok (Recalled x))) = (omega arith, λ f. inl refl)
+up d a = (omega arith, inl)
+
 -- runs taken later are those of the deck and above, and above if it is free; runs given later are above
 higher : (d e : Deck) (rs : List Told) → History d rs e → (l r : ℕ) → Takes rs l r → (d.runs ≤ r) × (d.is_out ≡ false → d.runs < r)
 higher d e [] h l r (x, inl n, q) = absurd n
@@ -91,24 +86,17 @@ higher d e [] h l r (x, inr n, q) = absurd n
 higher d e (a ∷ rs) h zero r t =
     let (out, run, _) = taken_now d a r h.0 t in
     (omega arith, λ f. absurd (true≢false (sym out ∙ f)))
-higher d e (Some (Ok (Released x)) ∷ rs) h (suc l) r t = let (low, _) = higher (gone_out d) e rs h.1 l r t in (omega arith, λ f. omega arith)
-higher d e (Some (Ok (Moved x)) ∷ rs) h (suc l) r t = higher d e rs h.1 l r t
-higher d e (Some (Ok (Finished x)) ∷ rs) h (suc l) r t = let (low, above) = higher (freed d) e rs h.1 l r t in (low, λ f. above refl)
-higher d e (Some (Ok (Recalled x)) ∷ rs) h (suc l) r t = let (low, above) = higher (freed d) e rs h.1 l r t in (low, λ f. above refl)
-higher d e (Some (Err f) ∷ rs) h (suc l) r t = higher d e rs h.1 l r t
-higher d e (None ∷ rs) h (suc l) r t = higher d e rs h.1 l r t
+higher d e (a ∷ rs) h (suc l) r t =
+    let (low, above) = higher (deck_after d a) e rs h.1 l r t in
+    let (more, free) = up d a in
+    (omega arith, λ f. ⊎_elim (λ g. let over = above g in omega arith) (λ g. omega arith) (free f))
 
 given_above : (d e : Deck) (rs : List Told) → History d rs e → (l r : ℕ) → Gives rs l r → d.runs < r
 given_above d e [] h l r (x, n, q) = absurd n
 given_above d e (a ∷ rs) h zero r (x, n, q) =
     let g = subst (λ (b : Told). Grants d b) n h.0 in
     omega (arith, next_run d x g.0 g.1)
-given_above d e (Some (Ok (Released x)) ∷ rs) h (suc l) r t = let low = given_above (gone_out d) e rs h.1 l r t in omega arith
-given_above d e (Some (Ok (Moved x)) ∷ rs) h (suc l) r t = given_above d e rs h.1 l r t
-given_above d e (Some (Ok (Finished x)) ∷ rs) h (suc l) r t = given_above (freed d) e rs h.1 l r t
-given_above d e (Some (Ok (Recalled x)) ∷ rs) h (suc l) r t = given_above (freed d) e rs h.1 l r t
-given_above d e (Some (Err f) ∷ rs) h (suc l) r t = given_above d e rs h.1 l r t
-given_above d e (None ∷ rs) h (suc l) r t = given_above d e rs h.1 l r t
+given_above d e (a ∷ rs) h (suc l) r t = omega (arith, given_above (deck_after d a) e rs h.1 l r t, (up d a).0)
 
 never_again : (d e : Deck) (rs : List Told) → History d rs e → (k l r : ℕ) → k < l → Takes rs k r → (Takes rs l r → ⊥) × (Gives rs l r → ⊥)
 never_again d e [] h k l r lt (x, inl n, q) = absurd n

@@ -11,6 +11,10 @@ use Rattle.deck.specs.declared.slip.Returned.{Returned}
 abbrev pub slip_with : SlipNumbers → Slip
 slip_with x = record { numbers = x }
 
+-- the slip is off its run: runs are numbered from 1
+abbrev pub IsSpent : Slip → Type 0
+IsSpent s = s.numbers.run ≡ 0
+
 -- the slip one instant later
 abbrev pub later : Slip → Slip
 later s = slip_with (record s.numbers { instant = s.numbers.instant + 1 })

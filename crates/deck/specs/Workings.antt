@@ -8,7 +8,7 @@ use Rattle.deck.specs.declared.call.Call.{Call}
 use Rattle.deck.specs.Decks.{fits, freed}
 use Rattle.deck.specs.Releasing.{ByLast}
 use Rattle.deck.specs.Law.{Told, Grants, deck_after, History}
-use Rattle.deck.specs.Runs.{onward_told, finish_told, recall_told, answer_to, hand_after, answers_to, hand_left}
+use Rattle.deck.specs.Runs.{answer_to, hand_after, answers_to, hand_left}
 
 -- a slip in hand is that of the run that the deck is out on
 abbrev pub InHand : Deck → Option Slip → Type 0
@@ -26,19 +26,6 @@ pub record Leaves (d e : Deck) (hand hand' : Option Slip) (a : Told) : Type 0 wh
 pub record Answers {F R : Type 0} (sets : R → Sets) (s : Search F R) (d e : Deck) (call : Call) (hand : Option Slip) (a : Told) (hand' : Option Slip) : Type 0 where
   pub told : ByLast sets s (λ last. a ≡ answer_to d last hand call)
   pub leaves : Leaves d e hand hand' a
-
--- Calls that hand in a slip, whatever the search.
-pub record TellsOnward (slip : Slip) (a : Told) (hand' : Option Slip) : Type 0 where
-  pub told : a ≡ onward_told slip
-  pub leaves : (d : Deck) → fits slip.numbers d ≡ true → Leaves d d (Some slip) hand' a
-
-pub record TellsFinish (d e : Deck) (slip : Slip) (a : Told) (hand' : Option Slip) : Type 0 where
-  pub told : a ≡ finish_told d slip
-  pub leaves : fits slip.numbers d ≡ true → Leaves d e (Some slip) hand' a
-
-pub record TellsRecall (d e : Deck) (slip : Slip) (a : Told) (hand' : Option Slip) : Type 0 where
-  pub told : a ≡ recall_told d slip
-  pub leaves : fits slip.numbers d ≡ true → Leaves d e (Some slip) hand' a
 
 -- The first i calls of a list, from no slip in hand: the rest would go on from there.
 pub record MadeSoFar {F R : Type 0} (sets : R → Sets) (s : Search F R) (calls : List Call) (i : ℕ) (d e : Deck) (before after : List Told) (hand : Option Slip) : Type 0 where

@@ -1,11 +1,13 @@
 // One call, made with the slip in hand or with none.
 ghost use Rattle.std.specs.Prelude.{◌≡◌, true, Some, None, Ok, Err, MatchResult};
+ghost use Rattle.deck.specs.declared.call.Done.TheVariants.{Released, Moved};
 ghost use Rattle.deck.specs.Decks.{fits};
-ghost use Rattle.deck.specs.Workings.{InHand, Answers, TellsOnward, TellsFinish, TellsRecall};
+ghost use Rattle.deck.specs.Workings.{InHand, Answers};
 
 use crate::Deck;
 use crate::call::{Answer, Call, Done};
 use crate::slip::{Returned, Slip};
+use fault::cause::Fault;
 use fleet::Fleet;
 use search::Search;
 use split::SplitRule;
@@ -40,52 +42,22 @@ impl Deck {
         requires { InHand self.old hand }
         ensures { Answers R.SplitRule.sets search.now self.old self.new call hand result.answer result.hand }
     {
-        match hand {
-            None => self.answer_empty_handed(search, call),
-            Some(slip) => self.answer_slip(search, call, slip),
-        }
-    }
-
-    fn answer_empty_handed<F: Fleet, R: SplitRule>(
-        &mut self,
-        search: &Search<F, R>,
-        call: Call,
-    ) -> Step
-        ensures { Answers R.SplitRule.sets search.now self.old self.new call None result.answer result.hand }
-    {
-        match call {
-            Call::Release => match self.release(search) {
-                Ok(slip) => Step {
-                    answer: Some(Ok(Done::Released(slip.numbers()))),
-                    hand: Some(slip),
-                },
-                Err(fault) => Step {
-                    answer: Some(Err(fault)),
-                    hand: None,
-                },
-            },
-            Call::Onward | Call::Finish | Call::Recall => Step {
+        match (call, hand) {
+            (Call::Release, None) => released(self.release(search)),
+            (Call::Release, Some(slip)) => self.release_again(search, slip),
+            (Call::Onward, Some(slip)) => moved(slip.onward()),
+            (Call::Finish, Some(slip)) => {
+                let done = Done::Finished(slip.numbers());
+                taken(self.finish(slip), done)
+            }
+            (Call::Recall, Some(slip)) => {
+                let done = Done::Recalled(slip.numbers());
+                taken(self.recall(slip), done)
+            }
+            (Call::Onward | Call::Finish | Call::Recall, None) => Step {
                 answer: None,
                 hand: None,
             },
-        }
-    }
-
-    // That the slip fits is asked here: a struct with the lent deck, the slip and this fact in it could not be taken apart.
-    fn answer_slip<F: Fleet, R: SplitRule>(
-        &mut self,
-        search: &Search<F, R>,
-        call: Call,
-        slip: Slip,
-    ) -> Step
-        requires { fits slip.numbers self.old ≡ true }
-        ensures { Answers R.SplitRule.sets search.now self.old self.new call (Some slip) result.answer result.hand }
-    {
-        match call {
-            Call::Release => self.release_again(search, slip),
-            Call::Onward => move_on(slip),
-            Call::Finish => self.finish_slip(slip),
-            Call::Recall => self.recall_slip(slip),
         }
     }
 
@@ -95,27 +67,38 @@ impl Deck {
         ensures { Answers R.SplitRule.sets search.now self.old self.new Call.Release (Some slip) result.answer result.hand }
     {
         match self.release(search) {
-            Ok(second) => {
-                slip.spend();
-                second.spend();
-                unreachable()
-            }
+            Ok(_) => unreachable(),
             Err(fault) => Step::from(Returned { fault, slip }),
         }
     }
+}
 
-    fn finish_slip(&mut self, slip: Slip) -> Step
-        ensures { TellsFinish self.old self.new slip result.answer result.hand }
-    {
-        let done = Done::Finished(slip.numbers());
-        taken(self.finish(slip), done)
+// What comes of a release.
+fn released(given: Result<Slip, Fault>) -> Step
+    ensures { MatchResult given (λ slip. (result.answer ≡ Some (Ok (Released slip.numbers))) × (result.hand ≡ Some slip)) (λ fault. (result.answer ≡ Some (Err fault)) × (result.hand ≡ None)) }
+{
+    match given {
+        Ok(slip) => Step {
+            answer: Some(Ok(Done::Released(slip.numbers()))),
+            hand: Some(slip),
+        },
+        Err(fault) => Step {
+            answer: Some(Err(fault)),
+            hand: None,
+        },
     }
+}
 
-    fn recall_slip(&mut self, slip: Slip) -> Step
-        ensures { TellsRecall self.old self.new slip result.answer result.hand }
-    {
-        let done = Done::Recalled(slip.numbers());
-        taken(self.recall(slip), done)
+// What comes of moving a slip on: it is one instant later, or it is handed back.
+fn moved(handed: Result<Slip, Returned>) -> Step
+    ensures { MatchResult handed (λ slip. (result.answer ≡ Some (Ok (Moved slip.numbers))) × (result.hand ≡ Some slip)) (λ r. (result.answer ≡ Some (Err r.fault)) × (result.hand ≡ Some r.slip)) }
+{
+    match handed {
+        Ok(slip) => Step {
+            answer: Some(Ok(Done::Moved(slip.numbers()))),
+            hand: Some(slip),
+        },
+        Err(returned) => Step::from(returned),
     }
 }
 
@@ -127,18 +110,6 @@ fn taken(handed: Result<(), Returned>, done: Done) -> Step
         Ok(()) => Step {
             answer: Some(Ok(done)),
             hand: None,
-        },
-        Err(returned) => Step::from(returned),
-    }
-}
-
-fn move_on(slip: Slip) -> Step
-    ensures { TellsOnward slip result.answer result.hand }
-{
-    match slip.onward() {
-        Ok(later) => Step {
-            answer: Some(Ok(Done::Moved(later.numbers()))),
-            hand: Some(later),
         },
         Err(returned) => Step::from(returned),
     }

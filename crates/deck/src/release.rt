@@ -15,7 +15,7 @@ impl Deck {
     {
         let last = search.makespan()?;
         if self.is_out || self.runs == u16::MAX {
-            return Err(Cause::DeckNotFree.at(0));
+            return Err(Cause::DeckNotFree.into());
         }
         self.runs += 1;
         self.is_out = true;

@@ -1,13 +1,12 @@
 // A list of calls with one deck and one search, each made with the slip that the calls before it left in hand.
-ghost use Rattle.std.specs.Prelude.{◌≡◌, ◌≤◌, true, length};
-ghost use Rattle.deck.specs.Decks.{fits, freed};
+ghost use Rattle.std.specs.Prelude.{◌≤◌, length};
 ghost use Rattle.deck.specs.Runs.{Runs};
 ghost use Rattle.deck.specs.Workings.{InHand, Makes, Closes};
 
 use crate::Deck;
 use crate::call::{Answer, Call};
 use crate::hand::Step;
-use crate::slip::{Returned, Slip};
+use crate::slip::Slip;
 use fault::cause::{Cause, Fault};
 use fleet::Fleet;
 use search::Search;
@@ -25,7 +24,7 @@ impl Deck {
         ensures { Runs R.SplitRule.sets search.now calls.now self.old self.new answers.old answers.new result }
     {
         if answers.len() < calls.len() {
-            return Err(Cause::BufferTooShort.at(0));
+            return Err(Cause::BufferTooShort.into());
         }
         let hand = self.make_calls(search, calls, answers);
         self.close(hand);
@@ -58,18 +57,9 @@ impl Deck {
         requires { InHand self.old hand }
         ensures { Closes self.old self.new hand }
     {
-        if let Some(slip) = hand {
-            self.give_back(slip);
-        }
-    }
-
-    // Recalls the slip of the run that the deck is out on.
-    fn give_back(&mut self, slip: Slip)
-        requires { fits slip.numbers self.old ≡ true }
-        ensures { self.new ≡ freed self.old }
-    {
-        if let Err(Returned { slip, .. }) = self.recall(slip) {
-            slip.spend();
+        if let Some(slip) = hand
+            && self.recall(slip).is_err()
+        {
             unreachable()
         }
     }

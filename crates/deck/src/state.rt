@@ -30,10 +30,7 @@ impl Deck {
         ensures { Finishes slip self.old self.new result }
     {
         if self.is_of_run(&slip) && slip.numbers.instant < slip.numbers.last {
-            return Err(Returned {
-                fault: Cause::WrongInstant.at(0),
-                slip,
-            });
+            return Err(slip.returned(Cause::WrongInstant));
         }
         self.recall(slip)
     }
@@ -43,10 +40,7 @@ impl Deck {
         ensures { Recalls slip self.old self.new result }
     {
         if !self.is_of_run(&slip) {
-            return Err(Returned {
-                fault: Cause::SlipNotOfRun.at(0),
-                slip,
-            });
+            return Err(slip.returned(Cause::SlipNotOfRun));
         }
         slip.spend();
         self.is_out = false;

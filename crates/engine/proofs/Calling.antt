@@ -1,7 +1,8 @@
 -- Answers, by what the engine found.
 use Rattle.std.proofs.Common.{◌≡◌, ℕ, zero, suc, ◌<◌, ◌≤◌, Bool, true, false, cond, ◌&&◌, ltb, leb, List, [], ◌∷◌, length, get_or, take, Some, None, Option, sym, refl, ap, ◌∙◌, subst, ap₂, ⊎_elim, arith}
-use Rattle.std.proofs.lemmas.Bool.{lt-ltb, le-ltb, ltb-true, le-leb, leb-true, and_from, and_parts, cond-true, cond-false, cases_Bool}
-use Rattle.std.specs.Option.{option_map}
+use Rattle.std.proofs.lemmas.Bool.{lt-ltb, ltb-true, le-leb, leb-true, and_from, and_parts, cond-true, cond-false, cases_Bool}
+use Rattle.std.specs.Option.{option_map, option_copied, is_some, IfSome}
+use denote.Ref.{Bor}
 use Rattle.tree.specs.Setting.{Setting}
 use Rattle.tree.specs.Plans.{Plan, route, place, sum, makespan}
 use Rattle.tree.specs.Search as search
@@ -116,13 +117,11 @@ module _ (S : Setting) (nodes : List tree.Node) where
   told_route tree.none o s e = ap (λ q. route_in q s) e
   told_route tree.full o s e = ap (λ q. route_in q s) e
 
-  pub route_found : (v : tree.Verdict) (rs : List (List ℕ)) (s : ℕ) → Some (plan_of S rs) ≡ solution nodes v → s < S.sleds → Some (take (suc S.horizon) (get_or rs s [])) ≡ route_told S nodes v s
-  route_found v rs s e h =
-      ap {B = Option (List ℕ)} Some (sym (route_of S rs s h)) ∙ sym (cond-true (ltb s S.sleds) (Some (route (plan_of S rs) s)) None (lt-ltb s S.sleds h))
-      ∙ told_route v (Some (plan_of S rs)) s e
-
-  pub route_high : (v : tree.Verdict) (p : Plan) (s : ℕ) → Some p ≡ solution nodes v → S.sleds ≤ s → None ≡ route_told S nodes v s
-  route_high v p s e h = sym (cond-false (ltb s S.sleds) (Some (route p s)) None (le-ltb s S.sleds h)) ∙ told_route v (Some p) s e
+  pub route_when : (v : tree.Verdict) (rs : List (List ℕ)) (s : ℕ) → Some (plan_of S rs) ≡ solution nodes v → (r : Option (Bor (List ℕ))) → is_some r ≡ ltb s S.sleds → IfSome r (λ x. x.now ≡ get_or rs s []) → option_map (take (suc S.horizon)) (option_copied r) ≡ route_told S nodes v s
+  route_when v rs s e None is x = sym (cond-false (ltb s S.sleds) (Some (route (plan_of S rs) s)) None (sym is)) ∙ told_route v (Some (plan_of S rs)) s e
+  route_when v rs s e (Some r) is x =
+      ap {B = Option (List ℕ)} Some (ap (take (suc S.horizon)) x ∙ sym (route_of S rs s (ltb-true s S.sleds (sym is))))
+      ∙ sym (cond-true (ltb s S.sleds) (Some (route (plan_of S rs) s)) None (sym is)) ∙ told_route v (Some (plan_of S rs)) s e
 
   pub told_makespan : (v : tree.Verdict) (o : Option Plan) → o ≡ solution nodes v → option_map (makespan S) o ≡ makespan_told S nodes v
   told_makespan (tree.solved k) o e = ap (option_map (makespan S)) e

@@ -1,7 +1,7 @@
 -- Costs of routes, their sum and the greatest of them, as chains find them.
 use Rattle.std.proofs.Common.{◌≡◌, ℕ, zero, suc, ◌+◌, ◌<◌, ◌≤◌, max, cond, eqb, ◌≢◌, List, [], ◌∷◌, map, fold, length, get_or, take, Some, None, Option, sym, refl, ap, ◌∙◌, ap₂, subst, ⊎_elim, arith}
 use Rattle.std.specs.List.{range_with_len, reduce}
-use Rattle.std.specs.Option.{unwrap_or, option_map}
+use Rattle.std.specs.Option.{unwrap_or, option_map, MatchOption}
 use Rattle.std.proofs.lemmas.Bool.{eq-eqb, ne_eqb, cases_eq}
 use Rattle.std.proofs.lemmas.List.{get_or-take, length-take-le}
 use Rattle.std.proofs.lemmas.List.FromFn.{map-range_with_len_more}
@@ -40,11 +40,11 @@ module _ (g : ℕ) (r : List ℕ) (n : ℕ) (l : n ≤ length r) where
   front : length (take n r) ≡ n
   front = length-take-le n r l
 
-  pub settled_never : ((k : ℕ) → k < length (take n r) → get_or (take n r) k 0 ≡ g) → 0 ≡ settled g r n
-  settled_never h = never_away g (take n r) n (λ k m. h k (omega (arith, front))) ∙ settled_take g n r n (omega arith)
-
-  pub settled_after : (last : ℕ) → (last < length (take n r)) × (get_or (take n r) last 0 ≢ g × ((k : ℕ) → last < k → k < length (take n r) → get_or (take n r) k 0 ≡ g)) → last + 1 ≡ settled g r n
-  settled_after last h = away_at g (take n r) n last (omega (arith, front, h.0)) h.1.0 (λ k m p. h.1.1 k m (omega (arith, front))) ∙ settled_take g n r n (omega arith)
+  -- one more than the last instant away from the goal, or 0 where there is none
+  pub settled_by : (o : Option ℕ) (c : ℕ) → MatchOption o ((k : ℕ) → k < length (take n r) → get_or (take n r) k 0 ≡ g) (λ last. (last < length (take n r)) × (get_or (take n r) last 0 ≢ g × ((k : ℕ) → last < k → k < length (take n r) → get_or (take n r) k 0 ≡ g)))
+      → MatchOption o (c ≡ 0) (λ last. c ≡ last + 1) → c ≡ settled g r n
+  settled_by None c h is = is ∙ never_away g (take n r) n (λ k m. h k (omega (arith, front))) ∙ settled_take g n r n (omega arith)
+  settled_by (Some last) c h is = is ∙ away_at g (take n r) n last (omega (arith, front, h.0)) h.1.0 (λ k m p. h.1.1 k m (omega (arith, front))) ∙ settled_take g n r n (omega arith)
 
 pub cost_of : (S : Setting) (rs : List (List ℕ)) (s : ℕ) → s < S.sleds → settled (S.goal s) (get_or rs s []) (S.horizon + 1) ≡ cost S s (route (plan_of S rs) s)
 unfolding cost

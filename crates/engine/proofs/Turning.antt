@@ -1,5 +1,5 @@
 -- A turn, by what the engine found.
-use Rattle.std.proofs.Common.{◌≡◌, ℕ, ◌+◌, ◌<◌, ◌≤◌, false, ltb, List, [], length, get_or, Some, None, vec_items, Option, sym, refl, ap, ◌∙◌, subst, arith}
+use Rattle.std.proofs.Common.{◌≡◌, ℕ, ◌+◌, ◌<◌, ◌≤◌, true, false, ltb, List, [], length, get_or, Some, None, vec_items, Option, sym, refl, ap, ◌∙◌, subst, arith}
 use Rattle.std.proofs.lemmas.Bool.{lt-ltb, le-ltb, cond-true, cond-false}
 use Rattle.std.specs.Option.{option_map, option_to_list}
 use Rattle.tree.specs.Lists.{to_list}
@@ -78,8 +78,14 @@ module _ (m : Model) (limit : ℕ) (table : List Node) (t : tree.Tree) (f : Foll
           subst (Follows m after Working) (sym (conflict_turn (Some (conflict_of c)) e ∙ cond-false (ltb limit (length t.nodes + 2)) (tree.tree_of t.nodes tree.full) (tree.tree_of (tree.expand P t.nodes (found_of t.nodes k) (conflict_of c)) tree.working) more)) (record { tracks = g; verdict_is = refl })
 
 -- an engine that has ended stays where it is
-turn_rests : (m : Model) (limit : ℕ) (table : List Node) (v : Verdict) (t : tree.Tree) → tree.is_working (verdict_of v) ≡ false → Follows m table v t → Follows m table v (tree.turn (search_of m) limit t)
-turn_rests m limit table v t e f = subst (Follows m table v) (sym (rests (search_of m) limit t (ap tree.is_working f.verdict_is ∙ e))) f
+pub engine_rests : (m : Model) (e : Engine) → tree.is_working (verdict_of e.verdict) ≡ false → Goes m e e (tree.turn (search_of m) e.limit)
+engine_rests m e over = record { goes = λ t f. subst (Follows m (vec_items e.table.nodes) e.verdict) (sym (rests (search_of m) e.limit t (ap tree.is_working f.verdict_is ∙ over))) f; same_limit = refl }
+
+pub is_working : (v : Verdict) → tree.is_working (verdict_of v) ≡ true → v ≡ Working
+is_working Working h = refl
+is_working (Solved k) h = cc
+is_working Unsolvable h = cc
+is_working Full h = cc
 
 -- the engine begins where the theory does
 pub root_tracks : (m : Model) (limit : ℕ) (r : Option Node) → ((above : List constraints.SledConstraint) (k : ℕ) → MadeAs m above k r (tree.make_node (search_of m) 0 [])) → Follows m (option_to_list r) Working (tree.turns (search_of m) limit 0)
@@ -94,12 +100,3 @@ root_tracks m limit r h = record { tracks = start r (tree.make_node (search_of m
     start None (Some x) h = absurd (h [])
     start (Some n) None h = absurd (h [])
     start (Some n) (Some x) h = push_tracks m [] [] none_yet n x (h (get_or [] (parent_of n.branch) blank).trail)
-
-over : (v : Verdict) → (v ≡ Working → ⊥) → tree.is_working (verdict_of v) ≡ false
-over Working h = absurd (h refl)
-over (Solved k) h = refl
-over Unsolvable h = refl
-over Full h = refl
-
-pub engine_rests : (m : Model) (e : Engine) → (e.verdict ≡ Working → ⊥) → Goes m e e (tree.turn (search_of m) e.limit)
-engine_rests m e h = record { goes = λ t f. turn_rests m e.limit (vec_items e.table.nodes) e.verdict t (over e.verdict h) f; same_limit = refl }

@@ -43,9 +43,7 @@ impl Engine {
     pub fn place<P: Problem>(&self, problem: &P, sled: usize, instant: usize) -> Result<u8, Refusal>
         ensures { (t : tree.Tree) → IsAt (P.Problem.model problem.now) self.now t → told_of calls.stands result ≡ calls.placed (P.Problem.model problem.now).setting t.nodes t.verdict sled instant }
     {
-        let Some(node) = self.solved() else {
-            return Err(Refusal::NotSolved);
-        };
+        let node = self.solved().ok_or(Refusal::NotSolved)?;
         if sled < problem.sleds() && instant <= problem.horizon().steps as usize {
             Ok(node.routes[sled][instant])
         } else {
@@ -58,12 +56,9 @@ impl Engine {
         ensures { (t : tree.Tree) → IsAt (P.Problem.model problem.now) self.now t → option_map (take (suc (P.Problem.model problem.now).setting.horizon)) result ≡ route_told (P.Problem.model problem.now).setting t.nodes t.verdict sled }
     {
         let node = self.solved()?;
-        // By hand: with `get` it stays open in the proof that the node that `solved` lends has six routes.
-        if sled < problem.sleds() {
-            Some(node.routes[sled])
-        } else {
-            None
-        }
+        (sled < problem.sleds())
+            .then(|| &node.routes[sled])
+            .copied()
     }
 
     // The greatest cost of a route in the solved node; none unless it is solved.

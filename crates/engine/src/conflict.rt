@@ -10,6 +10,7 @@ use super::node::{MAX_SLEDS, Route};
 use super::placed::{at, going};
 use super::problem::Problem;
 use super::scan::{Pair, first_pair};
+use walk::horizon::MAX_INSTANTS;
 
 // Two sleds that meet at an instant, or collide in the step that leaves it.
 #[derive(Clone, Copy, PartialEq, Debug)]
@@ -28,7 +29,7 @@ fn first_meeting<P: Problem>(problem: &P, routes: &[Route; MAX_SLEDS]) -> Option
         problem.sleds(),
         instants,
         |pair|
-            requires { (pair.instant < 64) × ((pair.first < 6) × (pair.second < 6)) }
+            requires { (pair.instant < MAX_INSTANTS) × ((pair.first < MAX_SLEDS) × (pair.second < MAX_SLEDS)) }
         {
             problem.meets(
                 at(routes, pair.first, pair.instant),
@@ -47,7 +48,7 @@ fn first_collision<P: Problem>(problem: &P, routes: &[Route; MAX_SLEDS]) -> Opti
         problem.sleds(),
         steps,
         |pair|
-            requires { (pair.instant < 63) × ((pair.first < 6) × (pair.second < 6)) }
+            requires { (pair.instant + 1 < MAX_INSTANTS) × ((pair.first < MAX_SLEDS) × (pair.second < MAX_SLEDS)) }
         {
             problem.collides(
                 going(routes, pair.first, pair.instant),

@@ -6,7 +6,7 @@ ghost use Rattle.engine.specs.Table.{plan_of};
 
 use super::node::{MAX_SLEDS, Route};
 use super::problem::Problem;
-use walk::horizon::Horizon;
+use walk::horizon::{Horizon, MAX_INSTANTS};
 
 // The last instant of a row at which it is not at the goal.
 fn last_away(row: &[u8], goal: u8) -> Option<usize>
@@ -19,20 +19,22 @@ fn last_away(row: &[u8], goal: u8) -> Option<usize>
 // The first instant from which on a route stays at its goal, up to the horizon.
 fn route_cost(route: &Route, goal: u8, horizon: Horizon) -> u8
     ensures cost { result ≡ settled goal route.now (horizon.steps + 1) }
-    ensures low { result ≤ 64 }
+    ensures low { result ≤ MAX_INSTANTS }
 {
     let instants = horizon.steps as usize + 1;
-    match last_away(&route[..instants], goal) {
-        Some(last) => last as u8 + 1,
-        None => 0,
-    }
+    last_away(&route[..instants], goal).map_or(
+        0,
+        |last|
+            requires { last < MAX_INSTANTS }
+        { last as u8 + 1 },
+    )
 }
 
 // What the route of a sled costs. The problem and the routes stay two arguments: of a struct of both each clause would be longer.
 fn sled_cost<P: Problem>(problem: &P, routes: &[Route; MAX_SLEDS], sled: usize) -> u8
     requires { sled < (P.Problem.model problem.now).setting.sleds }
     ensures cost { result ≡ cost (P.Problem.model problem.now).setting sled (route (plan_of (P.Problem.model problem.now).setting routes.now) sled) }
-    ensures low { result ≤ 64 }
+    ensures low { result ≤ MAX_INSTANTS }
 {
     route_cost(&routes[sled], problem.goal(sled), problem.horizon())
 }

@@ -1,5 +1,5 @@
 // What a trail forbids one sled, collected into a table.
-use super::node::PlaceSet;
+use super::node::{MAX_MOVES, PlaceSet};
 use few::Few;
 use walk::horizon::MAX_INSTANTS;
 use walk::weight::Step;
@@ -10,5 +10,5 @@ use walk::weight::Step;
 pub(crate) struct Forbidden {
     pub(crate) places: [PlaceSet; MAX_INSTANTS],
     pub(crate) leaving: [PlaceSet; MAX_INSTANTS],
-    pub(crate) moves: Few<Step, 512>,
+    pub(crate) moves: Few<Step, MAX_MOVES>,
 }

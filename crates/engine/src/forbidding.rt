@@ -6,7 +6,7 @@ ghost use Rattle.engine.specs.Table.{constraint_of};
 ghost use Rattle.engine.specs.Forbids.{marked, listed, is_forbidden, Collected, FitsTable};
 
 use super::forbidden::Forbidden;
-use super::node::{Constraint, PlaceSet};
+use super::node::{Constraint, MAX_MOVES, PlaceSet};
 use few::Few;
 use grid::place::BOARD_PLACES;
 use std::array;
@@ -15,11 +15,11 @@ use walk::weight::Step;
 
 // The places that are in one set or in the other.
 fn union(one: &PlaceSet, other: &PlaceSet) -> PlaceSet
-    ensures { (p : ℕ) → p < 256 → slice_index_or result p false ≡ (slice_index_or one.now p false || slice_index_or other.now p false) }
+    ensures { (p : ℕ) → p < BOARD_PLACES → slice_index_or result p false ≡ (slice_index_or one.now p false || slice_index_or other.now p false) }
 {
     array::from_fn(
         |place|
-            requires { place < 256 }
+            requires { place < BOARD_PLACES }
             ensures { result ≡ (slice_index_or one.entry.now place false || slice_index_or other.entry.now place false) }
         { one[place] || other[place] },
     )
@@ -52,7 +52,7 @@ impl Forbidden {
 
     // Whether a step is forbidden. The list of moves is looked through only where some move from that place is in it.
     pub(crate) fn forbids(&self, step: Step) -> bool
-        requires { step.instant < 63 }
+        requires { step.instant + 1 < MAX_INSTANTS }
         ensures { result ≡ is_forbidden self.now step.instant step.from step.to }
     {
         let before = step.instant as usize;
@@ -63,8 +63,8 @@ impl Forbidden {
 
     // Marks the place that a forbidden move leaves.
     fn mark_leaving(&mut self, step: Step)
-        requires { step.instant < 64 }
-        ensures marks { (t p : ℕ) → t < 64 → p < 256 → marked self.new.leaving t p ≡ (marked self.old.leaving t p || (step.instant == t && step.from == p)) }
+        requires { step.instant < MAX_INSTANTS }
+        ensures marks { (t p : ℕ) → t < MAX_INSTANTS → p < BOARD_PLACES → marked self.new.leaving t p ≡ (marked self.old.leaving t p || (step.instant == t && step.from == p)) }
         ensures same { (self.new.places ≡ self.old.places) × (self.new.moves ≡ self.old.moves) }
     {
         let row = &mut self.leaving[step.instant as usize];
@@ -73,7 +73,7 @@ impl Forbidden {
 
     // Forbids more.
     pub(crate) fn add(&mut self, constraint: Constraint)
-        requires room { length (told self.old.moves) < 512 }
+        requires room { length (told self.old.moves) < MAX_MOVES }
         requires fits { FitsTable constraint }
         ensures room { length (told self.new.moves) ≤ length (told self.old.moves) + 1 }
         ensures added { (rest all : List constraints.Constraint) → Collected self.old (constraint_of constraint ∷ rest) all → Collected self.new rest all }

@@ -9,6 +9,7 @@ mod expand;
 mod forbidden;
 mod forbidding;
 mod grow;
+pub mod lone;
 pub mod node;
 mod placed;
 mod plan;

@@ -1,12 +1,14 @@
 // The nodes of the tree as records.
+pub use grid::limits::MAX_SLEDS;
 use grid::place::BOARD_PLACES;
 use walk::horizon::MAX_INSTANTS;
 use walk::weight::Step;
 
-pub const MAX_SLEDS: usize = 6;
-
 // The largest node limit.
 pub const MAX_NODES: u16 = 512;
+
+// The most moves that a trail forbids one sled: one for each node.
+pub(crate) const MAX_MOVES: usize = MAX_NODES as usize;
 
 // A route's places at the instants from 0 to the horizon; later entries do not count.
 pub type Route = [u8; MAX_INSTANTS];

@@ -5,11 +5,12 @@ ghost use Rattle.engine.specs.Table.{at_of};
 
 use super::node::{MAX_SLEDS, Route};
 use super::problem::{At, Going};
+use walk::horizon::MAX_INSTANTS;
 use walk::weight::Step;
 
 // A sled where it is at an instant.
 pub(crate) fn at(routes: &[Route; MAX_SLEDS], sled: usize, instant: u8) -> At
-    requires { (sled < 6) × (instant < 64) }
+    requires { (sled < MAX_SLEDS) × (instant < MAX_INSTANTS) }
     ensures { result ≡ record { sled = sled; place = at_of routes.now sled instant } }
 {
     At {
@@ -20,7 +21,7 @@ pub(crate) fn at(routes: &[Route; MAX_SLEDS], sled: usize, instant: u8) -> At
 
 // The step of a sled that leaves an instant.
 pub(crate) fn step(routes: &[Route; MAX_SLEDS], sled: usize, instant: u8) -> Step
-    requires { (sled < 6) × (instant < 63) }
+    requires { (sled < MAX_SLEDS) × (instant + 1 < MAX_INSTANTS) }
     ensures { result ≡ record { instant = instant; from = at_of routes.now sled instant; to = at_of routes.now sled (instant + 1) } }
 {
     let route = &routes[sled];
@@ -34,7 +35,7 @@ pub(crate) fn step(routes: &[Route; MAX_SLEDS], sled: usize, instant: u8) -> Ste
 
 // A sled as it goes in the step that leaves an instant.
 pub(crate) fn going(routes: &[Route; MAX_SLEDS], sled: usize, instant: u8) -> Going
-    requires { (sled < 6) × (instant < 63) }
+    requires { (sled < MAX_SLEDS) × (instant + 1 < MAX_INSTANTS) }
     ensures { result ≡ record { sled = sled; from = at_of routes.now sled instant; to = at_of routes.now sled (instant + 1) } }
 {
     let Step { from, to, .. } = step(routes, sled, instant);

@@ -7,9 +7,9 @@ ghost use Rattle.tree.specs.Choice.{first_choice};
 ghost use Rattle.engine.specs.Forbids.{permitted, Collected, InTime};
 
 use super::forbidden::Forbidden;
+use super::lone::LoneSled;
 use super::node::Route;
 use super::problem::Problem;
-use walk::errand::Errand;
 use walk::horizon::MAX_INSTANTS;
 use walk::route::first_route;
 use walk::weight::{Step, Steps};
@@ -17,17 +17,16 @@ use walk::weight::{Step, Steps};
 // The steps of a sled that the problem allows and the table does not forbid.
 #[derive(Drop)]
 struct SledSteps<'a, P> {
-    problem: &'a P,
+    lone: LoneSled<'a, P>,
     forbidden: &'a Forbidden,
-    sled: usize,
 }
 
 impl<'a, P: Problem> Steps<bool> for SledSteps<'a, P> {
-    ghost step = { λ x t p q. permitted (P.Problem.model x.problem.now) x.forbidden.now x.sled t p q };
+    ghost step = { λ x t p q. permitted (P.Problem.model x.lone.problem.now) x.forbidden.now x.lone.sled t p q };
 
     fn weight(&self, taken: Step) -> bool {
         (taken.instant as usize) < MAX_INSTANTS - 1
-            && self.problem.allows(self.sled, taken)
+            && self.lone.weight(taken)
             && !self.forbidden.forbids(taken)
     }
 }
@@ -41,16 +40,9 @@ pub(crate) fn plan_sled<'a, P: Problem>(
     requires { sled < (P.Problem.model problem.now).setting.sleds }
     ensures { (bs : List constraints.Constraint) → Collected forbidden.now [] bs → AllByRecursion (InTime (P.Problem.model problem.now).setting) bs → option_map (take (suc (P.Problem.model problem.now).setting.horizon)) result ≡ first_choice (P.Problem.model problem.now).setting sled bs }
 {
-    let steps = SledSteps {
-        problem,
-        forbidden,
-        sled,
-    };
-    let errand = Errand {
-        start: problem.start(sled),
-        goal: problem.goal(sled),
-        horizon: problem.horizon(),
-    };
+    let lone = LoneSled { problem, sled };
+    let errand = lone.errand();
+    let steps = SledSteps { lone, forbidden };
     let found = first_route(&steps, errand)?;
     Some(found.places)
 }

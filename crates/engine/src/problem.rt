@@ -3,6 +3,7 @@ ghost use Rattle.std.specs.Prelude.{◌≡◌, ℕ, ◌<◌, false, slice_index_
 ghost use Rattle.engine.specs.Model.{Model, Keeps};
 
 use super::node::Sets;
+use grid::place::BOARD_PLACES;
 use walk::horizon::Horizon;
 use walk::weight::Step;
 
@@ -52,8 +53,8 @@ pub trait Problem {
 
     // Where two sleds meet: the places that each of them is to be kept from.
     fn splits(&self, a: At, b: At) -> Sets
-        ensures lower { (w : ℕ) → w < 256 → slice_index_or result.lower w false ≡ (model self.now).first a.sled b.sled a.place b.place w }
-        ensures higher { (w : ℕ) → w < 256 → slice_index_or result.higher w false ≡ (model self.now).second a.sled b.sled a.place b.place w };
+        ensures lower { (w : ℕ) → w < BOARD_PLACES → slice_index_or result.lower w false ≡ (model self.now).first a.sled b.sled a.place b.place w }
+        ensures higher { (w : ℕ) → w < BOARD_PLACES → slice_index_or result.higher w false ≡ (model self.now).second a.sled b.sled a.place b.place w };
 
     ghost keeps: { (p : Self) → Keeps (model p) };
 }

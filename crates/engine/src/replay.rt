@@ -5,6 +5,7 @@ ghost use Rattle.engine.specs.Model.{search_of};
 ghost use Rattle.engine.specs.Calls.{call_of, events_of};
 
 use super::call::{Answer, Call};
+use super::node::MAX_NODES;
 use super::problem::Problem;
 use super::state::Engine;
 
@@ -19,14 +20,14 @@ impl Engine {
         answers: &mut [Answer],
     ) -> usize
         ensures count { result ≡ min (length calls.now) (length answers.old) }
-        ensures lawful { Lawful (search_of (P.Problem.model problem.now)) (min limit 512) (map call_of (take result calls.now)) (events_of (take result calls.now) (take result answers.new)) }
+        ensures lawful { Lawful (search_of (P.Problem.model problem.now)) (min limit MAX_NODES) (map call_of (take result calls.now)) (events_of (take result calls.now) (take result answers.new)) }
         ensures rest { drop result answers.new ≡ drop result answers.old }
     {
         self.open(problem, limit);
         let count = calls.len().min(answers.len());
-        // By number: of what a loop writes through a `zip` with `iter_mut` only the length is known after it.
-        for number in 0..count {
-            answers[number] = self.answer(problem, calls[number]);
+        // The answers by number: of what a loop writes through a `zip` with `iter_mut` only the length is known after it.
+        for (number, call) in calls[..count].iter().enumerate() {
+            answers[number] = self.answer(problem, *call);
         }
         count
     }

@@ -1,6 +1,7 @@
 // The table of nodes.
 ghost use Rattle.std.specs.Prelude.{◌≡◌, ◌+◌, ◌<◌, ◌≤◌, [], ◌++◌, length, IfOk, vec_len, vec_capacity, slice_index_or};
 ghost use Rattle.std.specs.Option.{option_to_list};
+ghost use Rattle.engine.specs.declared.node.TheConstants.{MAX_NODES};
 ghost use Rattle.engine.specs.Least.{CheapestSoFar, closed_at};
 ghost use Rattle.engine.specs.Table.{empty};
 ghost use Rattle.engine.specs.WellFormed.{AllWellFormed, MadeWellFormed};
@@ -13,8 +14,8 @@ use std::alloc::{AllocError, Global};
 #[derive(Drop)]
 pub(crate) struct NodeTable {
     pub(crate) nodes: Vec<Node>,
-    ghost few: { vec_len nodes ≤ 512 },
-    ghost room: { 512 ≤ vec_capacity nodes },
+    ghost few: { vec_len nodes ≤ MAX_NODES },
+    ghost room: { MAX_NODES ≤ vec_capacity nodes },
     ghost formed: { AllWellFormed nodes.items },
 }
 
@@ -66,7 +67,7 @@ impl NodeTable {
 
     // Fills the next record where a node was made.
     pub(crate) fn fill(&mut self, made: Option<Node>)
-        requires room { vec_len self.old.nodes < 512 }
+        requires room { vec_len self.old.nodes < MAX_NODES }
         requires formed { MadeWellFormed (vec_len self.old.nodes) made }
         ensures rows { self.new.nodes.items ≡ self.old.nodes.items ++ option_to_list made }
         ensures len { (vec_len self.old.nodes ≤ vec_len self.new.nodes) × (vec_len self.new.nodes ≤ vec_len self.old.nodes + 1) }

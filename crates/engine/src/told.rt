@@ -26,11 +26,12 @@ impl From<Refusal> for Fault {
     ghost from_gives = { λ refusal fault. fault ≡ fault_of (refusal_of refusal) };
 
     fn from(refusal: Refusal) -> Fault {
-        match refusal {
-            Refusal::Ended => Cause::WrongState.at(0),
-            Refusal::NoTurns => Cause::NoTurns.at(0),
-            Refusal::NotSolved => Cause::NotSolved.at(0),
-            Refusal::TooHigh => Cause::NumberTooHigh.at(0),
-        }
+        let cause = match refusal {
+            Refusal::Ended => Cause::WrongState,
+            Refusal::NoTurns => Cause::NoTurns,
+            Refusal::NotSolved => Cause::NotSolved,
+            Refusal::TooHigh => Cause::NumberTooHigh,
+        };
+        cause.into()
     }
 }

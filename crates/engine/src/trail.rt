@@ -8,16 +8,16 @@ ghost use Rattle.engine.specs.Table.{Tracks, blank, sled_constraint_of};
 ghost use Rattle.engine.specs.Forbids.{Collected, FitsTable};
 
 use super::forbidden::Forbidden;
-use super::node::SledConstraint;
+use super::node::{MAX_MOVES, SledConstraint};
 use super::table::NodeTable;
 
 // Adds what the trail of a node forbids a sled.
 fn add_trail(table: &NodeTable, number: usize, sled: usize, forbidden: &mut Forbidden)
-    requires { (number < vec_len table.now.nodes) × (length (told forbidden.old.moves) + number ≤ 512) }
+    requires { (number < vec_len table.now.nodes) × (length (told forbidden.old.moves) + number ≤ MAX_MOVES) }
     ensures { (m : Model) (xs : List tree.Node) (all : List constraints.Constraint) → Tracks m table.now.nodes.items xs → Collected forbidden.old (constraints.constraints_on sled (slice_index_or xs number blank).trail) all → Collected forbidden.new [] all }
 {
     let nodes = table.records();
-    // By hand: the number where the walk stands shows that it ends and that its moves have room; a chain of branches tells no number.
+    // By hand: of `successors` it stays open that they end; here the number shows that, and that there is room for the moves.
     let mut at = number;
     while let Some(branch) = nodes[at].branch {
         if branch.own.sled == sled {

@@ -28,8 +28,8 @@ impl Engine {
 
     // Begins the search of a problem with its root. A limit above the largest is taken as the largest.
     pub fn open<P: Problem>(&mut self, problem: &P, limit: u16)
-        ensures root { IsAt (P.Problem.model problem.now) self.new (tree.turns (search_of (P.Problem.model problem.now)) (min limit 512) 0) }
-        ensures limit { self.new.limit ≡ min limit 512 }
+        ensures root { IsAt (P.Problem.model problem.now) self.new (tree.turns (search_of (P.Problem.model problem.now)) (min limit MAX_NODES) 0) }
+        ensures limit { self.new.limit ≡ min limit MAX_NODES }
     {
         let first = root(problem);
         self.table.clear();
@@ -43,22 +43,21 @@ impl Engine {
     fn turn<P: Problem>(&mut self, problem: &P)
         ensures { Goes (P.Problem.model problem.now) self.old self.new (tree.turn (search_of (P.Problem.model problem.now)) self.old.limit) }
     {
-        match (self.verdict, self.table.cheapest()) {
-            (Verdict::Working, Some(number)) => match first_conflict(
-                problem,
-                &self.table.node(number).routes,
-            ) {
-                None => self.verdict = Verdict::Solved(number),
-                Some(conflict) => {
-                    if self.table.len() + 2 > self.limit as usize {
-                        self.verdict = Verdict::Full;
-                    } else {
-                        self.table.expand(problem, number, conflict);
-                    }
-                }
-            },
-            (Verdict::Working, None) => self.verdict = Verdict::Unsolvable,
-            _ => {}
+        if !self.is_working() {
+            return;
+        }
+        let Some(number) = self.table.cheapest() else {
+            self.verdict = Verdict::Unsolvable;
+            return;
+        };
+        let Some(conflict) = first_conflict(problem, &self.table.node(number).routes) else {
+            self.verdict = Verdict::Solved(number);
+            return;
+        };
+        if self.table.len() + 2 > self.limit as usize {
+            self.verdict = Verdict::Full;
+        } else {
+            self.table.expand(problem, number, conflict);
         }
     }
 
@@ -73,7 +72,7 @@ impl Engine {
         ensures made { (t : tree.Tree) → IsAt (P.Problem.model problem.now) self.old t → result ≡ made_by (search_of (P.Problem.model problem.now)) self.old.limit count t }
         ensures goes { Goes (P.Problem.model problem.now) self.old self.new (after_turns (search_of (P.Problem.model problem.now)) self.old.limit count) }
     {
-        // By hand: in a chain one closure would read the engine while another changes it.
+        // By hand: a `find` whose closure makes the turns is no plainer, and what it leaves of the engine stays open.
         for made in 0..count {
             if !self.is_working() {
                 return made;

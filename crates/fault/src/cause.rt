@@ -15,7 +15,6 @@ pub enum Layer {
 // Every cause, with its number.
 #[derive(Clone, Copy, PartialEq, Debug)]
 pub enum Cause {
-    // the job file
     EndsInsideField = 1,
     TagNotDue = 2,
     WrongLength = 3,
@@ -23,7 +22,6 @@ pub enum Cause {
     OffsetTooFar = 5,
     SledCount = 6,
     BytesAfterEnd = 7,
-    // the search
     SearchNotIdle = 8,
     FleetNotOfJob = 9,
     CannotStand = 10,
@@ -31,7 +29,6 @@ pub enum Cause {
     NoTurns = 12,
     NotSolved = 13,
     NumberTooHigh = 14,
-    // the deck
     DeckNotFree = 15,
     BufferTooShort = 16,
     SlipNotOfRun = 17,
@@ -58,6 +55,15 @@ impl From<Cause> for u8 {
 
     fn from(cause: Cause) -> u8 {
         cause as u8
+    }
+}
+
+// A fault that no byte and no sled is named for has place 0.
+impl From<Cause> for Fault {
+    ghost from_gives = { λ cause fault. fault ≡ fault_at cause 0 };
+
+    fn from(cause: Cause) -> Fault {
+        cause.at(0)
     }
 }
 

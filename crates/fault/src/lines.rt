@@ -23,12 +23,12 @@ pub fn write_lines<L: Lines>(told: &L, out: &mut [u8]) -> Result<usize, Fault>
     ensures { Writes (L.lines told.now) out.old out.new result }
 {
     if out.len() < LINES_BUFFER {
-        return Err(Cause::BufferTooShort.at(0));
+        return Err(Cause::BufferTooShort.into());
     }
     let mut text = Text::new(out);
     told.put(&mut text);
-    match text.length() {
-        Some(length) => Ok(length),
-        None => unreachable(),
-    }
+    let Some(length) = text.length() else {
+        unreachable()
+    };
+    Ok(length)
 }

@@ -1,7 +1,7 @@
 -- What a run over a range of signed numbers gives, where the last is in the range.
 use Rattle.std.proofs.Common.{◌≡◌, ℕ, zero, suc, ◌+◌, ◌-◌, ◌*◌, ◌<◌, ◌≤◌, Bool, true, false, ℤ, pos, ◌+ℤ◌, ◌-ℤ◌, List, [], ◌∷◌, length, Option, Some, None, MatchOption, MatchBool, Bor, IsTrue, sym, ap, subst, ◌∙◌, ⊎_elim, arith}
 use borrow.Author.Differences.{up, down}
-use Rattle.std.proofs.lemmas.Bool.{cases_Bool, both_ways}
+use Rattle.std.proofs.lemmas.Bool.{cases_Bool, both_ways, false_from_ne_true}
 use Rattle.std.proofs.lemmas.Int.{ints}
 use Rattle.std.specs.declared.ops.RangeInclusive.{RangeInclusive}
 use Rattle.std.specs.Int.{int_gap}
@@ -84,15 +84,13 @@ module _ (p : Run signed_steps) (m : ℕ) (z : ℤ) (over : Over p m z) where
 
     none : IsTrue p.whole → AllItems p (λ x. answers x false) → some_within m z set ≡ false
     none w all =
-        ⊎_elim
+        false_from_ne_true (some_within m z set)
         (λ e.
         let (a, near, hit) = (within_told m z set).0 e in
         let k : ℕ = up a + m + down z - (down a + up z) in
         let below : k < p.len = omega (arith, ints, near, whole w) in
         let is : z -ℤ pos m +ℤ pos k ≡ a = omega (arith, ints, near) in
-        absurd (both_ways _ (rw is at (told k below false (each _ k below (all k)))) hit))
-        (λ e. e)
-        (cases_Bool (some_within m z set))
+        both_ways _ (rw is at (told k below false (each _ k below (all k)))) hit)
 
 module _ (p : Run signed_steps) (set : ℤ → Bool) {F : Type 0} where
   -- what `any` answers over the numbers from z - m to z + m

@@ -12,3 +12,4 @@ pub mod Skirts
 pub mod ScansLemmas
 pub mod Cells
 pub mod SledLists
+pub mod Sums

@@ -1,13 +1,13 @@
 -- Scans of a range of numbers, and of all offsets.
-use Rattle.std.specs.Prelude.{◌≡◌, ℕ, zero, suc, ◌+◌, ◌-◌, ◌*◌, ◌<◌, ◌≤◌, Bool, true, false, ℤ, pos, ◌+ℤ◌, ◌-ℤ◌, ◌≤ℤ◌, Decides, refl}
+use Rattle.std.specs.Prelude.{◌≡◌, ℕ, zero, suc, ◌+◌, ◌-◌, ◌*◌, ◌<◌, ◌≤◌, Bool, true, false, ℤ, pos, ◌+ℤ◌, ◌-ℤ◌, ◌≤ℤ◌, Some, Decides, refl}
 use Rattle.std.proofs.Common.{sym, ap, ◌∙◌, ⊎_elim, arith}
 use borrow.Author.Differences.{up, down}
-use Rattle.std.proofs.lemmas.Bool.{both_ways, cases_Bool, cases_lt, cond-true, cond-false, cond_both, or_cases, false≢true}
+use Rattle.std.proofs.lemmas.Bool.{both_ways, cases_Bool, cases_lt, cond-true, cond-false, cond_both, or_cases, false≢true, false_from_ne_true}
 use Rattle.std.proofs.lemmas.Int.{ints}
 use Rattle.std.proofs.lemmas.Bool.Decides.{Decides-below_or}
 use Rattle.fleet.specs.declared.offset.Offset.{Offset}
 use Rattle.fleet.specs.Offsets.{Offsets, Near}
-use Rattle.fleet.specs.Scans.{any_below, some_within, some_near, in_row, some_offset, first_below, first_near, Within, Tells, TellsBeside, TellsRow}
+use Rattle.fleet.specs.Scans.{any_below, some_within, some_near, in_row, some_offset, first_below, first_near, FirstNear, Within, Tells, TellsBeside, TellsRow}
 
 own : (b : Bool) → Decides b (b ≡ true)
 own b = (λ e. e, λ e. e)
@@ -29,7 +29,7 @@ within_told m z p =
 
 none_below : (p : ℕ → Bool) (n : ℕ) → ((j : ℕ) → j < n → p j ≡ false) → any_below p n ≡ false
 none_below p n none =
-    ⊎_elim (λ e. let (k, below, hit) = (any_told p n).0 e in absurd (both_ways _ (none k below) hit)) (λ e. e) (cases_Bool (any_below p n))
+    false_from_ne_true (any_below p n) (λ e. let (k, below, hit) = (any_told p n).0 e in both_ways _ (none k below) hit)
 
 pub within_none : (m : ℕ) (z : ℤ) (p : ℤ → Bool) → ((k : ℕ) → k < 2 * m + 1 → p (pos k -ℤ pos m +ℤ z) ≡ false) → some_within m z p ≡ false
 unfolding some_within
@@ -37,24 +37,23 @@ within_none m z p none = none_below (λ k. p (pos k -ℤ pos m +ℤ z)) (2 * m +
 
 pub first_told : (p : ℕ → Bool) (n : ℕ) → any_below p n ≡ true → (first_below p n < n) × (p (first_below p n) ≡ true)
 first_told p zero h = absurd (false≢true h)
-first_told p (suc n) h =
-    ⊎_elim
-    (λ e. let (below, hit) = first_told p n e in rw (cond-true (any_below p n) (first_below p n) n e) (omega arith, hit))
-    (λ e. rw (cond-false (any_below p n) (first_below p n) n e) (omega arith, ⊎_elim (λ here. here) (λ f. absurd (both_ways _ e f)) (or_cases (p n) (any_below p n) h)))
-    (cases_Bool (any_below p n))
+first_told p (suc n) h = let before = first_told p n in grind (arith, before, h)
 
 pub first_is : (p : ℕ → Bool) (n k : ℕ) → k < n → p k ≡ true → ((j : ℕ) → j < k → p j ≡ false) → first_below p n ≡ k
 first_is p zero k below hit none = absurd (omega arith)
 first_is p (suc n) k below hit none =
     ⊎_elim
-    (λ less. cond-true (any_below p n) (first_below p n) n ((any_told p n).1 (k, less, hit)) ∙ first_is p n k less hit none)
-    (λ most. let e : n ≡ k = omega arith in cond-false (any_below p n) (first_below p n) n (none_below p n (λ j h. none j (omega arith))) ∙ e)
+    (λ less. let some = (any_told p n).1 (k, less, hit) in let before = first_is p n k less hit none in grind (arith, some, before))
+    (λ most. let nothing = none_below p n (λ j h. none j (omega arith)) in grind (arith, nothing))
     (cases_lt k n)
 
 -- the first number across passes
 pub near_first : (p : ℤ → Bool) → some_near p ≡ true → (p (first_near p) ≡ true) × Near (first_near p)
 unfolding some_within first_near
 near_first p h = let (below, hit) = first_told (λ k. p (pos k -ℤ pos 7 +ℤ pos 0)) 15 h in (hit, (omega (arith, ints, below), omega (arith, ints, below)))
+
+pub near_first_at : (p : ℤ → Bool) (z : ℤ) → FirstNear p (Some z) → (p z ≡ true) × Near z
+near_first_at p z (some, is) = rw is (near_first p some)
 
 pub near_first_is : (p : ℤ → Bool) (k : ℕ) → k < 15 → p (pos k -ℤ pos 7 +ℤ pos 0) ≡ true → ((j : ℕ) → j < k → p (pos j -ℤ pos 7 +ℤ pos 0) ≡ false) → pos k -ℤ pos 7 +ℤ pos 0 ≡ first_near p
 unfolding first_near
@@ -65,8 +64,8 @@ first_least : (p : ℕ → Bool) (n k : ℕ) → k < n → p k ≡ true → firs
 first_least p zero k below hit = absurd (omega arith)
 first_least p (suc n) k below hit =
     ⊎_elim
-    (λ less. rw (cond-true (any_below p n) (first_below p n) n ((any_told p n).1 (k, less, hit))) (first_least p n k less hit))
-    (λ most. cond_both (any_below p n) (first_below p n) n (λ r. r ≤ k) (λ e. let (less, _) = first_told p n e in omega arith) (λ e. omega arith))
+    (λ less. let some = (any_told p n).1 (k, less, hit) in let before = first_least p n k less hit in grind (arith, some, before))
+    (λ most. let before = first_told p n in grind (arith, before))
     (cases_lt k n)
 
 pub near_first_least : (p : ℤ → Bool) (z : ℤ) → Near z → p z ≡ true → first_near p ≤ℤ z

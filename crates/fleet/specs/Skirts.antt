@@ -2,8 +2,8 @@
 use Rattle.std.specs.Prelude.{◌≡◌, ℕ, ◌-◌, ◌≤◌, true, false, not, ◌&&◌, ℤ, pos, ◌+ℤ◌, ◌-ℤ◌, neg_ℤ, Decides, int_le}
 use Rattle.std.proofs.Common.{⊎_elim, arith}
 use Rattle.std.proofs.lemmas.Int.{ints}
-use Rattle.std.proofs.lemmas.Bool.{and_parts, and_from, and_cases, not-true, not_from_false, cases_Bool}
-use Rattle.fleet.specs.Offsets.{Offsets, Near}
+use Rattle.std.proofs.lemmas.Bool.{and_parts, and_from, and_cases, not-true, not_from_false, false_from_ne_true}
+use Rattle.fleet.specs.Offsets.{Offsets, Near, NearSet}
 use Rattle.fleet.specs.Scans.{within, in_row, Within}
 use Rattle.fleet.specs.SkirtFleets.{skirt, reaches_past, is_cut, Skirted, Cut}
 use Rattle.fleet.specs.ScansLemmas.{within_told, row_told, offset_found, offset_is}
@@ -39,12 +39,10 @@ past m h z e =
     (and_cases (int_le (neg_ℤ (pos (7 - m))) z) (int_le z (pos (7 - m))) e)
 
 inside : (m : ℕ) → m ≤ 3 → (z w : ℤ) → within (7 - m) z ≡ true → Within m w z → Near w
-inside m h z w e (a, b) =
-    let (low, high) = and_parts (int_le (neg_ℤ (pos (7 - m))) z) (int_le z (pos (7 - m))) e in
-    (grind (arith, ints, low, a, b), grind (arith, ints, high, a, b))
+inside m h z w e near = (grind (arith, ints, e, near), grind (arith, ints, e, near))
 
-pub cut_told : (m : ℕ) (below : Offsets) → m ≤ 3 → ((x y : ℤ) → below x y ≡ true → Near x × Near y) → Decides (is_cut m below) (Cut m below)
-cut_told m below h near = (
+pub cut_told : (m : ℕ) (below : Offsets) → NearSet below → m ≤ 3 → Decides (is_cut m below) (Cut m below)
+cut_told m below near h = (
   λ e.
       let (x, y, _, _, hit) = offset_is (reaches_past m below) e in
       let (has, far) = and_parts (below x y) (not (within (7 - m) x && within (7 - m) y)) hit in
@@ -56,9 +54,7 @@ cut_told m below h near = (
       let s = k.beside in
       let (near_a, near_b) = near s.a s.b s.is_below in
       let far =
-      ⊎_elim
-      (λ both. let (a, b) = and_parts (within (7 - m) s.a) (within (7 - m) s.b) both in absurd (k.off (inside m h s.a k.x a s.across, inside m h s.b k.y b s.down)))
-      (λ e. e)
-      (cases_Bool (within (7 - m) s.a && within (7 - m) s.b)) in
+      false_from_ne_true (within (7 - m) s.a && within (7 - m) s.b)
+      (λ both. let (a, b) = and_parts (within (7 - m) s.a) (within (7 - m) s.b) both in k.off (inside m h s.a k.x a s.across, inside m h s.b k.y b s.down)) in
       offset_found (reaches_past m below) s.a s.b near_a near_b (and_from (below s.a s.b) _ s.is_below (not_from_false _ far)),
 )

@@ -1,10 +1,11 @@
 // Fleets: how many sleds there are, and which offsets each has.
 #![tactic(auto)]
 
-ghost use Rattle.std.specs.Prelude.{◌≡◌, ℕ, ◌≤◌};
+ghost use Rattle.std.specs.Prelude.{◌≡◌, ℕ, ◌≤◌, ◌+ℤ◌};
 ghost use Rattle.fleet.specs.Offsets.{Sleds, OnlyBelow, AllNear, NoneEmpty};
 
 use crate::offset::Offset;
+pub use grid::limits::MAX_SLEDS;
 
 pub mod convoy;
 pub mod offset;
@@ -13,8 +14,6 @@ pub mod rectangles;
 pub mod scan;
 pub mod shapes;
 pub mod skirt;
-
-pub const MAX_SLEDS: usize = 6;
 
 // A fleet by its meaning: the number of sleds, and the set of offsets of each.
 // The laws are its terms: at most six sleds; only these have offsets; each part of an offset is from -7 to 7; no sled is without one.
@@ -29,6 +28,15 @@ pub trait Fleet {
     // Whether a sled has an offset: no, where there is no such sled.
     fn has(&self, sled: u8, offset: Offset) -> bool
         ensures { result ≡ offsets self.now sled offset.dx offset.dy };
+
+    // Whether a sled has an offset that lies further by another.
+    final fn has_moved(&self, sled: u8, offset: Offset, by: Offset) -> bool
+        ensures { result ≡ offsets self.now sled (offset.dx +ℤ by.dx) (offset.dy +ℤ by.dy) }
+    {
+        offset
+            .checked_add(by)
+            .is_some_and(|moved| self.has(sled, moved))
+    }
 
     ghost few: { (f : Self) → size f ≤ 6 };
 

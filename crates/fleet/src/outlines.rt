@@ -25,7 +25,7 @@ impl TryFrom<[u8; 8]> for Outline {
 
     fn try_from(rows: [u8; 8]) -> Result<Outline, Fault> {
         if is_blank(&rows) {
-            return Err(Cause::ValueOutsideLimits.at(0));
+            return Err(Cause::ValueOutsideLimits.into());
         }
         Ok(Outline { rows })
     }
@@ -44,6 +44,8 @@ impl Shape for Outline {
 
     ghost some = { λ o. some_cell o.rows o.drawn };
 
+    const FILLER: Outline = Outline { rows: [1; 8] };
+
     fn has(&self, offset: Offset) -> bool {
         let sides = 0..8;
         sides.contains(&offset.dx)
@@ -53,16 +55,7 @@ impl Shape for Outline {
 }
 
 impl Shapes<Outline> {
-    ghost use Rattle.std.specs.Prelude.{[]};
-    ghost use Rattle.fleet.specs.ShapeFleets.{sled_count};
-    ghost use Rattle.fleet.specs.OutlineFleets.{all_rows, Drawn};
-
-    // No sled yet.
-    pub fn new() -> Outlines
-        ensures { (all_rows result ≡ []) × (sled_count result ≡ 0) }
-    {
-        Shapes::none(Outline { rows: [1; 8] })
-    }
+    ghost use Rattle.fleet.specs.OutlineFleets.{Drawn};
 
     // One sled more, with some cell drawn; at most six.
     pub fn add(&mut self, rows: [u8; 8]) -> Result<(), Fault>

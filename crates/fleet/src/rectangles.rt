@@ -30,7 +30,7 @@ impl TryFrom<(u8, u8)> for Rectangle {
     fn try_from((width, height): (u8, u8)) -> Result<Rectangle, Fault> {
         let sides = 1..=MAX_SIDE;
         if !sides.contains(&width) || !sides.contains(&height) {
-            return Err(Cause::ValueOutsideLimits.at(0));
+            return Err(Cause::ValueOutsideLimits.into());
         }
         Ok(Rectangle { width, height })
     }
@@ -49,27 +49,21 @@ impl Shape for Rectangle {
 
     ghost some = { λ r. (pos 0, pos 0, Prim.grind (arith, nat_tests, r.wide, r.tall)) };
 
+    const FILLER: Rectangle = Rectangle {
+        width: 1,
+        height: 1,
+    };
+
     fn has(&self, offset: Offset) -> bool {
         (0..self.width as i8).contains(&offset.dx) && (0..self.height as i8).contains(&offset.dy)
     }
 }
 
 impl Shapes<Rectangle> {
-    ghost use Rattle.std.specs.Prelude.{[]};
-    ghost use Rattle.fleet.specs.ShapeFleets.{sled_count};
-    ghost use Rattle.fleet.specs.RectangleFleets.{all_sides, Added};
+    ghost use Rattle.fleet.specs.RectangleFleets.{Added};
 
-    // No sled yet.
-    pub fn new() -> Rectangles
-        ensures { (all_sides result ≡ []) × (sled_count result ≡ 0) }
-    {
-        Shapes::none(Rectangle {
-            width: 1,
-            height: 1,
-        })
-    }
-
-    // One sled more, of sides from 1 to 8; at most six.
+    // One sled more, of sides from 1 to 8; at most six. One `add` for every kind would take a shape, and leave to its callers what is
+    // refused here.
     pub fn add(&mut self, width: u8, height: u8) -> Result<(), Fault>
         ensures { Added width height self.old self.new result }
     {

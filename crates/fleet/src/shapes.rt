@@ -11,6 +11,9 @@ use few::Few;
 pub trait Shape: Copy {
     ghost covers: { Self → Offsets };
 
+    // What fills memory where no sled is.
+    const FILLER: Self;
+
     fn has(&self, offset: Offset) -> bool
         ensures { result ≡ covers self.now offset.dx offset.dy };
 
@@ -30,11 +33,11 @@ impl<S: Shape> Shapes<S> {
     ghost use Rattle.fleet.specs.ShapeFleets.{shapes_of, Joined};
 
     // No sled yet.
-    pub(crate) fn none(filler: S) -> Shapes<S>
+    pub fn new() -> Shapes<S>
         ensures { shapes_of result ≡ [] }
     {
         Shapes {
-            sleds: Few::new(filler),
+            sleds: Few::new(S::FILLER),
         }
     }
 
@@ -42,7 +45,7 @@ impl<S: Shape> Shapes<S> {
     pub(crate) fn join(&mut self, shape: S) -> Result<(), Fault>
         ensures { Joined shape self.old self.new result }
     {
-        self.sleds.push(shape).map_err(|_| Cause::SledCount.at(0))
+        self.sleds.push(shape).map_err(|_| Cause::SledCount.into())
     }
 }
 
@@ -69,10 +72,9 @@ impl<S: Shape> Fleet for Shapes<S> {
     }
 
     fn has(&self, sled: u8, offset: Offset) -> bool {
-        // A match: for `is_some_and` the closure would need clauses of its own.
-        match self.sleds.as_slice().get(sled as usize) {
-            Some(shape) => shape.has(offset),
-            None => false,
-        }
+        self.sleds
+            .as_slice()
+            .get(sled as usize)
+            .is_some_and(|shape| shape.has(offset))
     }
 }

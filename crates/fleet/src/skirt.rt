@@ -1,5 +1,7 @@
 // A margin around each sled of a fleet.
-ghost use Rattle.std.specs.Prelude.{◌≡◌, ◌≤◌, length};
+ghost use Rattle.std.specs.Prelude.{◌≤◌};
+
+use crate::MAX_SLEDS;
 
 mod calls;
 
@@ -13,6 +15,5 @@ struct Margin {
 #[derive(Drop)]
 pub struct Skirt<F> {
     inner: F,
-    margins: [Margin; 6],
-    ghost whole: { length margins ≡ 6 },
+    margins: [Margin; MAX_SLEDS],
 }

@@ -1,7 +1,7 @@
 -- Standing, sharing a cell and colliding: the tests say what the words say.
 use Rattle.std.proofs.Common.{◌≡◌, true, false, not, ◌&&◌, ◌||◌, ltb, ◌⊎◌, ℤ, pos, ◌+ℤ◌, ◌-ℤ◌, ◌≤ℤ◌, ◌<ℤ◌, Decides, sym, refl, ◌∙◌, inl, inr, ⊎_elim, arith}
 use Rattle.std.proofs.lemmas.Int.{ints, by_lt_z}
-use Rattle.std.proofs.lemmas.Bool.{both_ways, cases_Bool, and_parts, and_from, or_left, or_right, not-true, not_from_false, ltb-true, lt-ltb}
+use Rattle.std.proofs.lemmas.Bool.{both_ways, false_from_ne_true, true_from_ne_false, and_parts, and_from, or_right, not-true, not_from_false, ltb-true, lt-ltb}
 use Rattle.std.proofs.lemmas.Bool.Decides.{same_from_decides, Decides-like}
 use Rattle.grid.specs.declared.cell.Cell.{Cell}
 use Rattle.grid.specs.declared.cell.Cell.TheVariants.{Free, Pillar}
@@ -38,20 +38,18 @@ stand_told offsets floor u near = (
         column = ltb-true _ _ column;
         row = ltb-true _ _ row;
         free = λ x y has.
-            ⊎_elim (λ f. (free_told (cell_by floor u x y)).0 f)
-            (λ f. let (near_x, near_y) = near x y has in absurd (both_ways _ (not-true _ clear) (offset_found (blocked offsets floor u) x y near_x near_y (and_from (offsets x y) _ has (not_from_false _ f)))))
-            (cases_Bool (is_free (cell_by floor u x y)));
+            (free_told (cell_by floor u x y)).0
+            (true_from_ne_false _
+            (λ f. let (near_x, near_y) = near x y has in both_ways _ (not-true _ clear) (offset_found (blocked offsets floor u) x y near_x near_y (and_from (offsets x y) _ has (not_from_false _ f)))));
       },
   λ s.
       let clear =
-      ⊎_elim
+      false_from_ne_true (some_offset (blocked offsets floor u))
       (λ e.
       let (x, y, _, _, hit) = offset_is (blocked offsets floor u) e in
       let (has, stop) = and_parts (offsets x y) (not (is_free (cell_by floor u x y))) hit in
-      absurd (both_ways _ (not-true _ stop) ((free_told (cell_by floor u x y)).1 (s.free x y has))))
-      (λ e. not_from_false _ e)
-      (cases_Bool (some_offset (blocked offsets floor u))) in
-      and_from (on_floor floor u.column u.row) _ (and_from (ltb u.column floor.columns) _ (lt-ltb _ _ s.column) (lt-ltb _ _ s.row)) clear,
+      both_ways _ (not-true _ stop) ((free_told (cell_by floor u x y)).1 (s.free x y has))) in
+      and_from (on_floor floor u.column u.row) _ (and_from (ltb u.column floor.columns) _ (lt-ltb _ _ s.column) (lt-ltb _ _ s.row)) (not_from_false _ clear),
 )
 
 -- sharing a cell
@@ -151,9 +149,7 @@ small_opposite z w e = grind (arith, ints, e)
 
 module _ (x y a b : ℤ) where
   at_start : x ≡ pos 0 → y ≡ pos 0 → overlap x y a b ≡ true
-  at_start e f =
-      or_left (overlap_at Start x y a b) _
-      (and_from (small (twice Start x a)) (small (twice Start y b)) (small_zero (twice Start x a) (omega (arith, ints))) (small_zero (twice Start y b) (omega (arith, ints))))
+  at_start e f = grind (arith, ints)
 
   at_end : x +ℤ a ≡ pos 0 → y +ℤ b ≡ pos 0 → overlap x y a b ≡ true
   at_end e f =

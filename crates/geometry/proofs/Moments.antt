@@ -1,8 +1,7 @@
 -- The test at three moments of a step says what the definition over all its moments says.
 use Rattle.std.proofs.Common.{◌≡◌, ℕ, zero, suc, ◌+◌, ◌*◌, ◌<◌, ◌≤◌, true, ◌||◌, ◌⊎◌, ℤ, pos, negsuc, ◌+ℤ◌, ◌-ℤ◌, ◌*ℤ◌, nat_abs, ◌≤ℤ◌, ◌<ℤ◌, Decides, inl, inr, ⊎_elim, mul-suc, arith, lit≤}
-use lib.Signed.{lt_z}
 use Rattle.std.proofs.lemmas.Nat.{mul-le}
-use Rattle.std.proofs.lemmas.Int.{ints, by_lt_z}
+use Rattle.std.proofs.lemmas.Int.{ints}
 use Rattle.std.proofs.lemmas.Bool.{or_cases, or_left, or_right, and_parts, and_from, cases_lt}
 use Rattle.grid.specs.declared.moves.Move.{Move}
 use Rattle.grid.specs.declared.moves.Move.TheVariants.{North, West, Wait, East, South}
@@ -31,8 +30,8 @@ farther m n j k w h =
 
 module _ (m n : ℕ) (s : 1 ≤ m) (w : n ≤ m) where
   touching_way : (x a : ℤ) → Between m (pos m *ℤ x +ℤ pos n *ℤ a) → OnWay x a
-  touching_way (pos zero) (pos k) h = inl (omega (arith, ints), omega (arith, ints))
-  touching_way (pos zero) (negsuc k) h = inr (omega (arith, ints), omega (arith, ints))
+  touching_way (pos zero) (pos k) h = grind (arith, ints)
+  touching_way (pos zero) (negsuc k) h = grind (arith, ints)
   touching_way (pos (suc j)) (pos k) h = absurd (omega (arith, ints, mul-suc m j))
   touching_way (pos (suc j)) (negsuc k) h = inr (omega (arith, ints), let less = farther m n j (suc k) w (omega (arith, ints, mul-suc m j)) in omega (arith, ints))
   touching_way (negsuc j) (pos k) h = inl (let less = farther m n j k w (omega (arith, ints, mul-suc m j)) in omega (arith, ints), omega (arith, ints))
@@ -41,18 +40,12 @@ module _ (m n : ℕ) (s : 1 ≤ m) (w : n ≤ m) where
 -- so is to be near at one of the three moments
 
 small_told : (z : ℤ) → small z ≡ true → (negsuc 1 <ℤ z) × (z <ℤ pos 2)
-small_told z h = let (p, q) = and_parts (lt_z (negsuc 1) z) (lt_z z (pos 2)) h in (omega (arith, ints, p), omega (arith, ints, q))
+small_told z h = grind (arith, ints, h)
 
 small_way : (t : Moment) (x a : ℤ) → small (twice t x a) ≡ true → OnWay x a
-small_way Start x a h =
-    let (low, high) = small_told (twice Start x a) h in
-    by_lt_z a (pos 0) (λ less. inr (omega (arith, ints), omega (arith, ints))) (λ more. inl (omega (arith, ints), omega (arith, ints)))
-small_way Middle x a h =
-    let (low, high) = small_told (twice Middle x a) h in
-    by_lt_z a (pos 0) (λ less. inr (omega (arith, ints), omega (arith, ints))) (λ more. inl (omega (arith, ints), omega (arith, ints)))
-small_way End x a h =
-    let (low, high) = small_told (twice End x a) h in
-    by_lt_z a (pos 0) (λ less. inr (omega (arith, ints), omega (arith, ints))) (λ more. inl (omega (arith, ints), omega (arith, ints)))
+small_way Start x a h = grind (arith, ints, h)
+small_way Middle x a h = grind (arith, ints, h)
+small_way End x a h = grind (arith, ints, h)
 
 at_way : (t : Moment) (x y a b : ℤ) → overlap_at t x y a b ≡ true → OnWay x a × OnWay y b
 at_way t x y a b e = let (p, q) = and_parts (small (twice t x a)) (small (twice t y b)) e in (small_way t x a p, small_way t y b q)
@@ -66,16 +59,13 @@ overlap_way x y a b h =
 -- and for a step of at most two cells in all, who is on the way is near at one of the three
 
 middle_way : (x a : ℤ) → nat_abs a ≤ 1 → OnWay x a → small (twice Middle x a) ≡ true
-middle_way x a h (inl (p, q)) = grind (arith, ints, h, p, q)
-middle_way x a h (inr (p, q)) = grind (arith, ints, h, p, q)
+middle_way x a h w = grind (arith, ints, h, w)
 
 some_moment : (x a : ℤ) → nat_abs a ≤ 2 → OnWay x a → (small (twice Start x a) || (small (twice Middle x a) || small (twice End x a))) ≡ true
-some_moment x a h (inl (p, q)) = grind (arith, ints, h, p, q)
-some_moment x a h (inr (p, q)) = grind (arith, ints, h, p, q)
+some_moment x a h w = grind (arith, ints, h, w)
 
 rests : (y b : ℤ) → nat_abs b ≤ 0 → OnWay y b → (b ≡ pos 0) × (y ≡ pos 0)
-rests y b h (inl (p, q)) = (omega (arith, ints), omega (arith, ints))
-rests y b h (inr (p, q)) = (omega (arith, ints), omega (arith, ints))
+rests y b h w = grind (arith, ints, h, w)
 
 across_only : (x y a b : ℤ) → (small (twice Start x a) || (small (twice Middle x a) || small (twice End x a))) ≡ true → (b ≡ pos 0) × (y ≡ pos 0) → overlap x y a b ≡ true
 across_only x y a b h (e, f) = rw (e, f) (grind (arith, h))
@@ -112,13 +102,13 @@ two_cells p q = omega (arith, one_cell p, one_cell q, abs_sub (across p) (across
 
 module _ (x a : ℤ) where
   at_start : small (twice Start x a) ≡ true → Between 1 (pos 1 *ℤ x +ℤ pos 0 *ℤ a)
-  at_start h = let t = small_told (twice Start x a) h in (omega (arith, ints), omega (arith, ints))
+  at_start h = grind (arith, ints, h)
 
   at_middle : small (twice Middle x a) ≡ true → Between 2 (pos 2 *ℤ x +ℤ pos 1 *ℤ a)
-  at_middle h = let t = small_told (twice Middle x a) h in (omega (arith, ints), omega (arith, ints))
+  at_middle h = grind (arith, ints, h)
 
   at_end : small (twice End x a) ≡ true → Between 1 (pos 1 *ℤ x +ℤ pos 1 *ℤ a)
-  at_end h = let t = small_told (twice End x a) h in (omega (arith, ints), omega (arith, ints))
+  at_end h = grind (arith, ints, h)
 
 found : (x y a b : ℤ) → overlap x y a b ≡ true → (m : ℕ) × (n : ℕ) × Touching x y a b m n
 found x y a b h =

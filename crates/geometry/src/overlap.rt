@@ -4,7 +4,8 @@ ghost use Rattle.geometry.specs.Overlaps.{Far, twice, small, overlap_at, overlap
 
 use crate::relative::Step;
 
-// How far apart two cells are, across and down.
+// How far apart two cells are, across and down. Apart from a step and an offset, whose bounds are others (at most two cells, and none):
+// the sums below need these.
 #[derive(Clone, Copy)]
 pub(crate) struct Apart {
     pub(crate) x: i8,

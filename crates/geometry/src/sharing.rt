@@ -27,13 +27,16 @@ pub(crate) fn cell_by(place: Place, offset: Offset) -> Spot
 pub fn covers_cell<F: Fleet>(fleet: &F, sled: u8, place: Place, cell: Spot) -> bool
     ensures { result ≡ covers (F.Fleet.offsets fleet.now sled) (position_of place) cell.column cell.row }
 {
-    let Some(dx) = cell.column.checked_sub(place.column as i8) else {
-        return false;
+    // From the corner of the board to the cell, and from the place back to the corner.
+    let to_cell = Offset {
+        dx: cell.column,
+        dy: cell.row,
     };
-    let Some(dy) = cell.row.checked_sub(place.row as i8) else {
-        return false;
+    let to_corner = Offset {
+        dx: -(place.column as i8),
+        dy: -(place.row as i8),
     };
-    fleet.has(sled, Offset { dx, dy })
+    fleet.has_moved(sled, to_cell, to_corner)
 }
 
 // Whether an offset is one of the first sled and falls on a cell of the second.

@@ -1,5 +1,5 @@
 -- Places of the board and their numbers.
-use Rattle.std.specs.Prelude.{◌≡◌, ℕ, ◌+◌, ◌*◌, ◌/◌, ◌%◌, ◌<◌, ◌⊎◌, Some, None, Option}
+use Rattle.std.specs.Prelude.{◌≡◌, ℕ, ◌+◌, ◌*◌, ◌/◌, ◌%◌, ◌<◌, ◌⊎◌, List, ◌++◌, codes, decimal, Some, None, Option}
 use Rattle.grid.specs.declared.place.Place.{Place}
 use Rattle.grid.specs.declared.position.Position.{Position}
 
@@ -27,3 +27,7 @@ pub record HasNumber (p : Place) (n : ℕ) : Type 0 where
 abbrev pub Placed : (column row : ℕ) → Option Place → Type 0
 Placed column row (Some p) = (p.column ≡ column) × (p.row ≡ row)
 Placed column row None = (15 < column) ⊎ (15 < row)
+
+-- the column, a comma and the row
+abbrev pub column_row : Place → List ℕ
+column_row p = decimal p.column ++ codes "," ++ decimal p.row

@@ -1,5 +1,8 @@
 // A cell of the floor, and its byte in a job file.
-ghost use Rattle.grid.specs.Cells.{Decodes};
+ghost use Rattle.std.specs.Prelude.{Some, [], ◌∷◌};
+ghost use Rattle.grid.specs.Cells.{Decodes, byte_of};
+
+use std::fmt;
 
 #[derive(Clone, Copy, PartialEq, Debug)]
 pub enum Cell {
@@ -23,5 +26,17 @@ impl TryFrom<u8> for Cell {
             '#' => Ok(Cell::Pillar),
             _ => Err(NotACell(byte)),
         }
+    }
+}
+
+// By its byte in a job file.
+impl fmt::Display for Cell {
+    ghost output = { λ cell. Some (byte_of cell ∷ []) };
+
+    fn fmt<W: fmt::Write>(&self, f: &mut fmt::Formatter<W>) -> fmt::Result {
+        f.write_str(match self {
+            Cell::Free => ".",
+            Cell::Pillar => "#",
+        })
     }
 }

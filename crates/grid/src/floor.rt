@@ -2,6 +2,7 @@
 ghost use Rattle.std.specs.Prelude.{◌≡◌, ◌≤◌, length};
 
 use crate::cell::Cell;
+use crate::place::BOARD_PLACES;
 
 mod calls;
 
@@ -10,7 +11,7 @@ mod calls;
 pub struct Floor {
     columns: u8,
     rows: u8,
-    cells: [Cell; 256],
+    cells: [Cell; BOARD_PLACES],
     ghost wide: { 1 ≤ columns },
     ghost narrow: { columns ≤ 16 },
     ghost tall: { 1 ≤ rows },

@@ -1,11 +1,12 @@
 // Where the sleds of a job begin and end.
-ghost use Rattle.std.specs.Prelude.{◌≡◌, ◌≤◌, false, ◌&&◌, slice_index_or};
-ghost use Rattle.plans.specs.Tasks.{sled_of};
+ghost use Rattle.std.specs.Prelude.{◌≡◌};
+ghost use Rattle.job.specs.Jobs.{values_of};
 ghost use Rattle.instance.specs.Ends.{EndsAre, EndsOf, both_stand, FirstWithout};
 
 use fleet::MAX_SLEDS;
 use grid::place::BOARD_PLACES;
 use job::job::Job;
+use job::sled::Sled;
 use std::array;
 
 // Where one sled begins and ends, by place numbers.
@@ -15,47 +16,32 @@ pub(crate) struct Ends {
     pub(crate) goal: u8,
 }
 
-// Of a sled that the job does not have, both are 0.
-pub(crate) const NOWHERE: Ends = Ends { start: 0, goal: 0 };
+impl From<Sled> for Ends {
+    ghost from_gives = { λ sled. EndsAre (values_of sled) };
 
-pub(crate) fn ends_of(job: &Job) -> [Ends; MAX_SLEDS]
-    ensures { EndsOf job.now result }
-{
-    array::from_fn(|sled| ends_at(job, sled))
-}
-
-// Start and goal of one sled.
-fn ends_at(job: &Job, number: usize) -> Ends
-    ensures { EndsAre (sled_of job.now number) result }
-{
-    job.sled(number).map_or(
-        NOWHERE,
-        |sled| Ends {
+    fn from(sled: Sled) -> Ends {
+        Ends {
             start: u8::from(sled.start),
             goal: u8::from(sled.goal),
-        },
-    )
+        }
+    }
+}
+
+// Start and goal of each sled of the job.
+pub(crate) fn ends_of(job: &Job) -> [Option<Ends>; MAX_SLEDS]
+    ensures { EndsOf job.now result }
+{
+    array::from_fn(|number| job.sled(number).map(Ends::from))
 }
 
 // The first sled that cannot stand at its start or at its goal.
 pub(crate) fn first_stuck(
     standing: &[[bool; BOARD_PLACES]; MAX_SLEDS],
-    ends: &[Ends; MAX_SLEDS],
-    count: usize,
+    ends: &[Option<Ends>; MAX_SLEDS],
 ) -> Option<usize>
-    requires { count ≤ 6 }
-    ensures { FirstWithout (both_stand standing.now ends.now) count result }
+    ensures { FirstWithout (both_stand standing.now ends.now) 6 result }
 {
-    standing
-        .iter()
-        .zip(ends)
-        .take(count)
-        .position(|(places, ends)| !stands_at_both(places, *ends))
-}
-
-// Whether a sled that may stand at these places may stand at both of its ends.
-fn stands_at_both(places: &[bool; BOARD_PLACES], ends: Ends) -> bool
-    ensures { result ≡ (slice_index_or places.now ends.start false && slice_index_or places.now ends.goal false) }
-{
-    places[ends.start as usize] && places[ends.goal as usize]
+    standing.iter().zip(ends).position(|(places, ends)| {
+        ends.is_some_and(|ends| !places[ends.start as usize] || !places[ends.goal as usize])
+    })
 }

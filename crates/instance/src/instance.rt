@@ -17,13 +17,14 @@ mod calls;
 #[derive(Clone, Copy)]
 pub struct Instance {
     horizon: Horizon,
-    ends: [Ends; MAX_SLEDS],
+    // where each sled of the job begins and ends
+    ends: [Option<Ends>; MAX_SLEDS],
     floor: Floor,
     fleet: Tabled,
     // for each sled, and each place by its number, whether the sled may stand there
     standing: [[bool; BOARD_PLACES]; MAX_SLEDS],
     // for each sled and each higher one, the differences between their offsets
-    pairs: [[Differences; MAX_SLEDS]; MAX_SLEDS],
+    pairs: [[Option<Differences>; MAX_SLEDS]; MAX_SLEDS],
     ghost ends_stand: { AllStand (tabled_sleds fleet) floor fleet.count ends },
     ghost stands: { StandsTold (tabled_sleds fleet) floor standing },
     ghost paired: { ∥ PairsTold (tabled_sleds fleet) fleet.count pairs ∥₁ },

@@ -1,8 +1,6 @@
 // An instance with a splitting rule, as the problem that a search has to solve.
 ghost use Rattle.std.specs.Prelude.{◌≡◌, ℕ, ◌<◌, false, slice_index_or};
-ghost use Rattle.grid.specs.Places.{position_of, position_at};
-ghost use Rattle.split.specs.Situations.{situation};
-ghost use Rattle.tables.specs.TabledFleets.{tabled_sleds};
+ghost use Rattle.plans.specs.Instance.{in_set};
 ghost use Rattle.instance.specs.Instances.{task_in, model_of};
 ghost use Rattle.instance.specs.Sets.{split_terms};
 ghost use Rattle.instance.specs.Terms.{keeps_terms};
@@ -11,9 +9,9 @@ use crate::instance::Instance;
 use crate::meeting::pair_at;
 use engine::node::{PlaceSet, Sets};
 use engine::problem::{At, Going, Problem};
-use grid::place::{BOARD_PLACES, Place};
+use grid::place::Place;
 use split::SplitRule;
-use split::pair::{Pair, Side};
+use split::pair::Side;
 use std::array;
 use walk::horizon::Horizon;
 use walk::weight::Step;
@@ -25,26 +23,32 @@ pub struct Ruled<'a, R> {
 }
 
 impl<R: SplitRule> Ruled<'_, R> {
-    // The set of a side.
-    fn set_of(&self, side: Side, pair: Pair) -> PlaceSet
-        ensures { (w : ℕ) → w < 256 → slice_index_or result w false ≡ R.SplitRule.sets self.now.rule.now (situation self.now.instance.now.fleet.count (tabled_sleds self.now.instance.now.fleet) pair) side (position_at w) }
+    // The set of a side, where two sleds meet.
+    fn set_of(&self, side: Side, a: At, b: At) -> PlaceSet
+        ensures { (w : ℕ) → w < 256 → slice_index_or result w false ≡ in_set (task_in self.now.instance.now) (R.SplitRule.sets self.now.rule.now) side a.sled b.sled a.place b.place w }
     {
-        array::from_fn(
-            |number|
-                requires { number < 256 }
-            { self.holds(side, pair, Place::from(number as u8)) },
-        )
+        array::from_fn(|number| self.holds(side, a, b, number as u8))
     }
 
     // Whether a place is in the set of a side. At such a place the sled still meets the other, so the rule is asked of no others.
-    fn holds(&self, side: Side, pair: Pair, w: Place) -> bool
-        ensures { result ≡ R.SplitRule.sets self.now.rule.now (situation self.now.instance.now.fleet.count (tabled_sleds self.now.instance.now.fleet) pair) side (position_of w) }
+    fn holds(&self, side: Side, a: At, b: At, place: u8) -> bool
+        ensures { result ≡ in_set (task_in self.now.instance.now) (R.SplitRule.sets self.now.rule.now) side a.sled b.sled a.place b.place place }
     {
-        let moved = match side {
-            Side::Lower => Pair { u: w, ..pair },
-            Side::Upper => Pair { v: w, ..pair },
+        let meets = match side {
+            Side::Lower => self.instance.meet(At { place, ..a }, b),
+            Side::Upper => self.instance.meet(a, At { place, ..b }),
         };
-        self.instance.share_cell(moved) && self.rule.contains(self.instance.fleet(), pair, side, w)
+        meets && self.contains(side, a, b, place)
+    }
+
+    // The same by the rule alone, which knows no sled that is of no fleet.
+    fn contains(&self, side: Side, a: At, b: At, place: u8) -> bool
+        ensures { result ≡ in_set (task_in self.now.instance.now) (R.SplitRule.sets self.now.rule.now) side a.sled b.sled a.place b.place place }
+    {
+        pair_at(a, b).is_some_and(|pair| {
+            self.rule
+                .contains(self.instance.fleet(), pair, side, Place::from(place))
+        })
     }
 }
 
@@ -86,15 +90,9 @@ impl<R: SplitRule> Problem for Ruled<'_, R> {
     }
 
     fn splits(&self, a: At, b: At) -> Sets {
-        match pair_at(a, b) {
-            Some(pair) => Sets {
-                lower: self.set_of(Side::Lower, pair),
-                higher: self.set_of(Side::Upper, pair),
-            },
-            None => Sets {
-                lower: [false; BOARD_PLACES],
-                higher: [false; BOARD_PLACES],
-            },
+        Sets {
+            lower: self.set_of(Side::Lower, a, b),
+            higher: self.set_of(Side::Upper, a, b),
         }
     }
 }

@@ -11,10 +11,7 @@ use standing::standing_places;
 use std::array;
 use tables::tabled::Tabled;
 
-pub(crate) fn standings_of<'a>(
-    fleet: &'a Tabled,
-    floor: &'a Floor,
-) -> [[bool; BOARD_PLACES]; MAX_SLEDS]
+pub(crate) fn standings_of(fleet: &Tabled, floor: &Floor) -> [[bool; BOARD_PLACES]; MAX_SLEDS]
     ensures { StandsTold (tabled_sleds fleet.now) floor.now result }
 {
     array::from_fn(

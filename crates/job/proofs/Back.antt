@@ -170,7 +170,7 @@ sound_facts j =
     let f = j.floor in
     let fits = mul-le f.columns f.rows 16 16 f.narrow f.short in
     record {
-      horizon_ok = and_from _ _ (le-leb _ _ j.lasting) (le-leb _ _ j.ending);
+      horizon_ok = and_from _ _ (le-leb _ _ j.horizon.least) (le-leb _ _ j.horizon.most);
       limit_ok = and_from _ _ (le-leb _ _ j.some_nodes) (le-leb _ _ j.few_nodes);
       sides_ok = and_from _ _ (and_from _ _ (le-leb _ _ f.wide) (le-leb _ _ f.narrow)) (and_from _ _ (le-leb _ _ f.tall) (le-leb _ _ f.short));
       cells_ok = length-take-le (f.columns * f.rows) f.cells (omega (arith, fits, f.whole));

@@ -7,10 +7,11 @@ use Rattle.std.proofs.lemmas.Bool.{and_parts, leb-true, eqb-true}
 use Rattle.std.proofs.lemmas.Bool.Decides.{nat_tests}
 use Rattle.grid.specs.Cells.{byte_of}
 use Rattle.job.specs.declared.field.Header.{Header}
-use Rattle.job.specs.declared.value.Value.TheVariants.{Horizon, Limit, Sides}
+use Rattle.job.specs.declared.value.Value.TheVariants.{Limit, Floor as FloorSides}
 use Rattle.job.specs.Format.{JobFacts, field, floor_field, sled_field, end_field, encode}
 use Rattle.job.specs.Reading.{header_of, one_byte, horizon_of, limit_of, floor_of, FloorFacts, all_cells, cell_from, cells_from}
 use Rattle.job.specs.Told.{decode, sleds_at}
+use Rattle.job.specs.Shapes.{from_1_to}
 use Rattle.job.specs.Values.{check_value}
 use Rattle.job.proofs.Found.{Bytes, and_then_ok, checked_ok, Headed, headed, headed_field, low_byte}
 use Rattle.job.proofs.Part.{part}
@@ -31,7 +32,7 @@ one_byte_bytes tag at rest x e =
 horizon_bytes : (at : ℕ) (rest : List ℕ) (x : ℕ) → horizon_of at rest ≡ Ok x → rest ≡ field 72 (x ∷ []) ++ drop 4 rest
 horizon_bytes at rest x e =
     let (y, (read_is, e1)) = and_then_ok (one_byte 72 at rest) _ x e in
-    let (u, (ok, e2)) = and_then_ok (check_value (Horizon y) at) _ x e1 in
+    let (ok, e2) = checked_ok (from_1_to 63 y) _ at _ x e1 in
     let same : y ≡ x = cc in
     one_byte_bytes 72 at rest x (read_is ∙ ap Ok same)
 
@@ -64,7 +65,7 @@ floor_bytes at rest f small e =
     let (tag_is, e2) = checked_ok (eqb h.tag 70) _ at _ f e1 in
     let (some, e3) = checked_ok (leb 2 h.size) _ at _ f e2 in
     let (long_is, e4) = checked_ok (leb (3 + h.size) (length rest)) _ at _ f e3 in
-    let (u, (sides, e5)) = and_then_ok (check_value (Sides columns rows) at) _ f e4 in
+    let (u, (sides, e5)) = and_then_ok (check_value (FloorSides (record { columns = columns; rows = rows })) at) _ f e4 in
     let (size_is, e6) = checked_ok (eqb h.size (2 + n)) _ at _ f e5 in
     let (cells_ok, e7) = checked_ok (all_cells cells) _ at _ f e6 in
     let read : FloorFacts = record { columns = columns; rows = rows; cells = cells_from cells } in

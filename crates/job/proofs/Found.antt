@@ -132,7 +132,7 @@ limits_ok columns rows at sled s e =
 
 not_none : (columns rows at : ℕ) (sled : SledValue) → within_limits columns rows at sled ≡ Ok None → ⊥
 not_none columns rows at sled e =
-    let (u, (checked_is, none_is)) = and_then_ok (check_value (Placed sled columns rows) at) (λ _. Ok (Some sled)) None e in
+    let (u, (checked_is, none_is)) = and_then_ok (check_value (Placed sled (record { columns = columns; rows = rows })) at) (λ _. Ok (Some sled)) None e in
     let z : ◌≡◌ {A = ℕ} 0 1 = cc in
     omega arith
 

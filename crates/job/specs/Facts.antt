@@ -13,7 +13,7 @@ use Rattle.job.specs.Reading.{floor_facts}
 use Rattle.job.specs.Told.{decode}
 
 abbrev pub facts : Job → JobFacts
-facts j = record { horizon = j.horizon; limit = j.limit; floor = floor_facts j.floor; sleds = sleds_told j.sleds }
+facts j = record { horizon = j.horizon.steps; limit = j.limit; floor = floor_facts j.floor; sleds = sleds_told j.sleds }
 
 -- one step, one node, one free cell, and the smallest sled
 abbrev pub smallest : JobFacts

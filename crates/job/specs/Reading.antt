@@ -16,7 +16,8 @@ use Rattle.job.specs.declared.shape.Shape.TheVariants.{Rectangle, Drawing}
 use Rattle.job.specs.declared.sled_value.SledValue.{SledValue}
 use Rattle.job.specs.declared.sled_field.Entry.{Entry}
 use Rattle.job.specs.declared.sled_field.Entry.TheVariants.{Rectangle as RectangleEntry, Drawing as DrawingEntry, End}
-use Rattle.job.specs.declared.value.Value.TheVariants.{Horizon, Limit, Sides, Placed}
+use Rattle.job.specs.declared.value.Value.TheVariants.{Limit, Floor as FloorSides, Placed}
+use Rattle.job.specs.Shapes.{from_1_to}
 use Rattle.job.specs.Tags.{horizon_tag, limit_tag, floor_tag, rectangle_tag, drawing_tag, end_tag}
 use Rattle.job.specs.Values.{check_value}
 
@@ -51,7 +52,7 @@ one_byte tag at rest =
     Ok (slice_index rest 3)))))
 
 abbrev pub horizon_of : ℕ → List ℕ → Result ℕ Fault
-horizon_of at rest = and_then (one_byte horizon_tag at rest) (λ steps. and_then (check_value (Horizon steps) at) (λ _. Ok steps))
+horizon_of at rest = and_then (one_byte horizon_tag at rest) (λ steps. checked (from_1_to 63 steps) ValueOutsideLimits at (Ok steps))
 
 abbrev pub limit_of : ℕ → List ℕ → Result ℕ Fault
 limit_of at rest = and_then (one_byte limit_tag at rest) (λ nodes. and_then (check_value (Limit nodes) at) (λ _. Ok nodes))
@@ -89,7 +90,7 @@ floor_of at rest =
     checked (h.tag == floor_tag) TagNotDue at (
     checked (nat_le 2 h.size) WrongLength at (
     checked (nat_le (3 + h.size) (length rest)) EndsInsideField at (
-    and_then (check_value (Sides columns rows) at) (λ _.
+    and_then (check_value (FloorSides (record { columns = columns; rows = rows })) at) (λ _.
     checked (h.size == 2 + columns * rows) WrongLength at (
     checked (all_cells cells) ValueOutsideLimits at (
     Ok (record { columns = columns; rows = rows; cells = cells_from cells }))))))))
@@ -143,7 +144,7 @@ drawing_of value = placed_of (Drawing (take 8 value)) (drop 8 value)
 
 -- the sled of an entry, once its values are within their limits
 abbrev pub within_limits : ℕ → ℕ → ℕ → SledValue → Result (Option SledValue) Fault
-within_limits columns rows at sled = and_then (check_value (Placed sled columns rows) at) (λ _. Ok (Some sled))
+within_limits columns rows at sled = and_then (check_value (Placed sled (record { columns = columns; rows = rows })) at) (λ _. Ok (Some sled))
 
 abbrev pub sled_in : ℕ → ℕ → ℕ → List ℕ → Entry → Result (Option SledValue) Fault
 sled_in columns rows at rest RectangleEntry = within_limits columns rows at (rectangle_of (drop 3 rest))

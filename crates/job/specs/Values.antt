@@ -5,7 +5,7 @@ use Rattle.fault.specs.declared.cause.Cause.TheVariants.{ValueOutsideLimits, Off
 use Rattle.fault.specs.declared.cause.Fault.{Fault}
 use Rattle.fault.specs.Causes.{fault_at}
 use Rattle.job.specs.declared.value.Value.{Value}
-use Rattle.job.specs.declared.value.Value.TheVariants.{Horizon, Limit, Sides, Placed}
+use Rattle.job.specs.declared.value.Value.TheVariants.{Limit, Floor, Placed}
 use Rattle.job.specs.Shapes.{from_1_to, sled_ok, outgrown}
 
 -- nothing where the value is within its limits
@@ -13,11 +13,10 @@ abbrev pub outside : Bool → Option Cause
 outside within = cond within None (Some ValueOutsideLimits)
 
 abbrev pub fault_of : Value → Option Cause
-fault_of (Horizon steps) = outside (from_1_to 63 steps)
 fault_of (Limit nodes) = outside (from_1_to 255 nodes)
-fault_of (Sides columns rows) = outside (from_1_to 16 columns && from_1_to 16 rows)
-fault_of (Placed sled columns rows) =
-    cond (sled_ok columns rows sled) (cond (outgrown sled.shape sled.skirt) (Some OffsetTooFar) None) (Some ValueOutsideLimits)
+fault_of (Floor sides) = outside (from_1_to 16 sides.columns && from_1_to 16 sides.rows)
+fault_of (Placed sled sides) =
+    cond (sled_ok sides.columns sides.rows sled) (cond (outgrown sled.shape sled.skirt) (Some OffsetTooFar) None) (Some ValueOutsideLimits)
 
 abbrev pub refuse_for : Option Cause → ℕ → Result (Unit {0}) Fault
 refuse_for None at = Ok tt

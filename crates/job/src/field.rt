@@ -1,11 +1,12 @@
 // The fields of a job file: a tag, a length of two bytes, and a value.
 ghost use Rattle.std.specs.Prelude.{◌≡◌, ◌≤◌, length, drop};
 ghost use Rattle.fault.specs.Causes.{fault_at};
-ghost use Rattle.job.specs.Reading.{header_of, one_byte, horizon_of, limit_of};
+ghost use Rattle.job.specs.Reading.{header_of, one_byte, horizon_of, limit_of, shown};
 ghost use Rattle.job.specs.Values.{check_value};
 
 use crate::value::Value;
 use fault::cause::{Cause, Fault};
+use grid::horizon::Horizon;
 
 // A header takes three bytes.
 pub(crate) const HEADER: usize = 3;
@@ -78,13 +79,11 @@ impl<'a> Field<'a> {
     }
 }
 
-// By hand, as is the node limit: a function for both would tell in its contract which value a closure makes of each byte, for three lines.
-pub(crate) fn read_horizon(field: Field) -> Result<u8, Fault>
-    ensures { result ≡ horizon_of field.entry.at field.entry.rest.now }
+pub(crate) fn read_horizon(field: Field) -> Result<Horizon, Fault>
+    ensures { shown (λ h. h.steps) result ≡ horizon_of field.entry.at field.entry.rest.now }
 {
     let steps = field.byte(b'H')?;
-    field.check(Value::Horizon(steps))?;
-    Ok(steps)
+    Horizon::new(steps).ok_or(field.refused(Cause::ValueOutsideLimits))
 }
 
 pub(crate) fn read_limit(field: Field) -> Result<u8, Fault>

@@ -13,7 +13,7 @@ pub enum Shape {
 }
 
 impl Shape {
-    // Whether the shape has an offset.
+    // Whether the shape has an offset. The shapes of a fleet answer so too, once they are sound; a job knows no fleet, and asks before that.
     fn has(self, dx: u8, dy: u8) -> bool
         ensures { result ≡ covers self dx dy }
     {

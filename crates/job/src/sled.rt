@@ -1,8 +1,7 @@
 // A sled of a job: its shape, its skirt, its start and its goal.
 use crate::shape::Shape;
+pub use grid::limits::MAX_SLEDS;
 use grid::place::Place;
-
-pub const MAX_SLEDS: usize = 6;
 
 #[derive(Clone, Copy)]
 pub struct Sled {

@@ -1,5 +1,5 @@
 // The fields after the floor: a rectangular sled, a drawn sled, or the end.
-ghost use Rattle.std.specs.Prelude.{◌≡◌, ◌≤◌, length, map, option_map};
+ghost use Rattle.std.specs.Prelude.{◌≡◌, ◌≤◌, length, map, option_map, Some};
 ghost use Rattle.job.specs.Jobs.{ends_drawn, values_of};
 ghost use Rattle.job.specs.Reading.{due_entry, entry_of, entry_size, placed_of, rectangle_of, drawing_of, within_limits, sled_of, shown};
 
@@ -8,7 +8,7 @@ use crate::shape::Shape;
 use crate::sled::{MAX_SLEDS, Sled};
 use crate::sled_value::SledValue;
 use crate::sleds::ends_drawn;
-use crate::value::Value;
+use crate::value::{Sides, Value};
 use fault::cause::{Cause, Fault};
 use grid::floor::Floor;
 use grid::position::Position;
@@ -108,27 +108,28 @@ fn drawing(value: &[u8]) -> SledValue
 }
 
 // The sled, once its values are within their limits.
-fn limited(field: Field, value: SledValue, floor: &Floor) -> Result<Option<Sled>, Fault>
-    ensures { shown (option_map values_of) result ≡ within_limits floor.now.columns floor.now.rows field.entry.at value }
+fn within_limits(field: Field, value: SledValue, floor: &Floor) -> Result<Sled, Fault>
+    ensures { shown (λ sled. Some (values_of sled)) result ≡ within_limits floor.now.columns floor.now.rows field.entry.at value }
 {
-    field.check(Value::Placed {
-        sled: value,
+    let sides = Sides {
         columns: floor.columns(),
         rows: floor.rows(),
-    })?;
+    };
+    field.check(Value::Placed(value, sides))?;
     let Some(sled) = value.sled() else {
         unreachable()
     };
-    Ok(Some(sled))
+    Ok(sled)
 }
 
 // The next sled after these, or nothing at the end.
 pub(crate) fn read_sled(field: Field, floor: &Floor, sleds: &[Sled]) -> Result<Option<Sled>, Fault>
     ensures { shown (option_map values_of) result ≡ sled_of floor.now.columns floor.now.rows (length sleds.now) (ends_drawn (map values_of sleds.now)) field.entry.at field.entry.rest.now }
 {
-    match read_entry(field, sleds)? {
-        Entry::Rectangle => limited(field, rectangle(&field.rest[HEADER..]), floor),
-        Entry::Drawing => limited(field, drawing(&field.rest[HEADER..]), floor),
-        Entry::End => Ok(None),
-    }
+    let value = match read_entry(field, sleds)? {
+        Entry::Rectangle => rectangle(&field.rest[HEADER..]),
+        Entry::Drawing => drawing(&field.rest[HEADER..]),
+        Entry::End => return Ok(None),
+    };
+    within_limits(field, value, floor).map(Some)
 }

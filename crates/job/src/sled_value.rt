@@ -6,6 +6,7 @@ ghost use Rattle.job.specs.Shapes.{sled_ok};
 
 use crate::shape::Shape;
 use crate::sled::Sled;
+use crate::value::Sides;
 use grid::place::Place;
 use grid::position::Position;
 
@@ -33,14 +34,9 @@ impl SledValue {
     }
 
     // Whether the shape, the skirt and both places are within their limits.
-    pub(crate) fn is_sound(self, columns: u8, rows: u8) -> bool
-        ensures { result ≡ sled_ok columns rows self }
+    pub(crate) fn is_sound(self, sides: Sides) -> bool
+        ensures { result ≡ sled_ok sides.columns sides.rows self }
     {
-        self.shape.is_sound()
-            && self.skirt <= 3
-            && self.start.column < columns
-            && self.start.row < rows
-            && self.goal.column < columns
-            && self.goal.row < rows
+        self.shape.is_sound() && self.skirt <= 3 && sides.has(self.start) && sides.has(self.goal)
     }
 }

@@ -33,7 +33,9 @@ pub(crate) fn smallest_alone() -> Sleds
     ensures { sleds_told result ≡ smallest_sled ∷ [] }
 {
     let mut sleds = no_sleds();
-    let _ = sleds.push(SMALLEST);
+    let Ok(()) = sleds.push(SMALLEST) else {
+        unreachable()
+    };
     sleds
 }
 

@@ -1,24 +1,33 @@
 // What a field holds, by its tag, and whether that lies within its limits.
-ghost use Rattle.std.specs.Prelude.{◌≡◌};
+ghost use Rattle.std.specs.Prelude.{◌≡◌, ◌&&◌, nat_lt};
 ghost use Rattle.job.specs.Values.{fault_of};
 
 use crate::sled_value::SledValue;
 use fault::cause::Cause;
+use grid::position::Position;
+
+// The sides of a floor.
+#[derive(Clone, Copy)]
+pub(crate) struct Sides {
+    pub columns: u8,
+    pub rows: u8,
+}
+
+impl Sides {
+    // Whether a place lies on the floor.
+    pub(crate) fn has(self, place: Position) -> bool
+        ensures { result ≡ (nat_lt place.column self.columns && nat_lt place.row self.rows) }
+    {
+        place.column < self.columns && place.row < self.rows
+    }
+}
 
 #[derive(Clone, Copy)]
 pub(crate) enum Value {
-    Horizon(u8),
     Limit(u8),
-    Sides {
-        columns: u8,
-        rows: u8,
-    },
+    Floor(Sides),
     // a sled, and the sides of the floor that it moves on
-    Placed {
-        sled: SledValue,
-        columns: u8,
-        rows: u8,
-    },
+    Placed(SledValue, Sides),
 }
 
 impl Value {
@@ -27,24 +36,17 @@ impl Value {
         ensures { result ≡ fault_of self }
     {
         match self {
-            Value::Horizon(1..=63) => None,
             Value::Limit(1..=255) => None,
-            Value::Sides {
-                columns: 1..=16,
-                rows: 1..=16,
-            } => None,
-            Value::Placed {
-                sled,
-                columns,
-                rows,
-            } if !sled.is_sound(columns, rows) => Some(Cause::ValueOutsideLimits),
-            Value::Placed { sled, .. } if sled.shape.outgrows(sled.skirt) => Some(
-                Cause::OffsetTooFar,
-            ),
-            Value::Placed { .. } => None,
-            Value::Horizon(_) | Value::Limit(_) | Value::Sides { .. } => Some(
-                Cause::ValueOutsideLimits,
-            ),
+            Value::Floor(
+                Sides {
+                    columns: 1..=16,
+                    rows: 1..=16,
+                },
+            ) => None,
+            Value::Placed(sled, sides) if !sled.is_sound(sides) => Some(Cause::ValueOutsideLimits),
+            Value::Placed(sled, _) if sled.shape.outgrows(sled.skirt) => Some(Cause::OffsetTooFar),
+            Value::Placed(..) => None,
+            Value::Limit(_) | Value::Floor(_) => Some(Cause::ValueOutsideLimits),
         }
     }
 }

@@ -5,7 +5,6 @@ use job::job::Job;
 use standard::JobFleet;
 use standing::standing_places;
 use walk::errand::Errand;
-use walk::horizon::Horizon;
 use walk::route::first_route;
 use walk::standing::Standing;
 use walk::tally::tally;
@@ -26,15 +25,12 @@ fn word(yes: bool) -> &'static str {
 
 pub fn show_routes(rt: &HostRuntime, job: &Job, fleet: &JobFleet) -> anyhow::Result<()> {
     let floor = job.floor();
-    let Some(horizon) = Horizon::new(job.horizon()) else {
-        return Ok(());
-    };
     for (number, sled) in job.sleds().iter().enumerate() {
         let at = standing_places(fleet, number as u8, &floor);
         let errand = Errand {
             start: u8::from(sled.start),
             goal: u8::from(sled.goal),
-            horizon,
+            horizon: job.span(),
         };
         show_route(rt, number, &Standing { at }, errand)?;
     }

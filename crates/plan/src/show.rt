@@ -1,7 +1,6 @@
 // A job in lines that a person reads: horizon and limit, the floor, and each sled.
-use crate::printed::{At, Drawn, Row};
+use crate::printed::{Drawn, Row};
 use grid::floor::Floor;
-use grid::place::BOARD_SIDE;
 use job::job::Job;
 use job::shape::Shape;
 use job::sled::Sled;
@@ -18,8 +17,8 @@ pub fn show_job(rt: &HostRuntime, job: &Job) -> anyhow::Result<()> {
 
 fn show_floor(rt: &HostRuntime, floor: &Floor) -> anyhow::Result<()> {
     println!(rt; "floor {} by {}", floor.columns(), floor.rows())?;
-    for row in 0..floor.rows().min(BOARD_SIDE) as i8 {
-        println!(rt; "{}", Row { floor, row })?;
+    for row in floor.cells().chunks(usize::from(floor.columns())) {
+        println!(rt; "{}", Row(row))?;
     }
     Ok(())
 }
@@ -31,7 +30,7 @@ fn show_sled(rt: &HostRuntime, number: usize, sled: &Sled) -> anyhow::Result<()>
         )?,
         Shape::Drawing { rows } => print!(rt; "sled {number} drawing {}", Drawn(rows))?,
     }
-    let (skirt, start, goal) = (sled.skirt, At(sled.start), At(sled.goal));
+    let (skirt, start, goal) = (sled.skirt, sled.start, sled.goal);
     println!(rt; " skirt {skirt} from {start} to {goal}")?;
     Ok(())
 }

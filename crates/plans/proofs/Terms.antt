@@ -22,7 +22,7 @@ jobs_are_tasks job offsets fleet =
     let on : (s : ℕ) → s < length (sleds_told job.sleds) → OnFloor job.floor.columns job.floor.rows (sled_of job s) =
     λ s l. found_on_floor (sleds_told job.sleds) job.floor.columns job.floor.rows s (sled_of job s) job.sound l refl in
     record {
-      lasts = job.lasting;
+      lasts = job.horizon.least;
       starts = λ s l. ((on s l).start_column, (on s l).start_row);
       goals = λ s l. ((on s l).goal_column, (on s l).goal_row);
       fleet = fleet;

@@ -1,5 +1,5 @@
 -- Routes counted by place numbers are those of the task.
-use Rattle.std.proofs.Common.{◌≡◌, ℕ, ◌<◌, List, Ok, Err, Result, subst, inr, MatchResult}
+use Rattle.std.proofs.Common.{◌≡◌, ℕ, ◌<◌, List, Ok, Err, Result, inr, MatchResult}
 use Rattle.fault.specs.declared.cause.Fault.{Fault}
 use Rattle.grid.specs.Places.{number_of}
 use Rattle.walk.specs.declared.count.Count.{Count}
@@ -13,6 +13,5 @@ module _ (s : ℕ) (row spare row' spare' : List Count) (K : Task) (below : s < 
   pub counts : (n start goal : ℕ) → n ≡ K.horizon → start ≡ number_of (K.start s) → goal ≡ number_of (K.goal s) → (r : Result ℕ Fault) →
       MatchResult r (Counted (both_ends (stands_at K s)) n start goal row spare row' spare') (Refused row spare row' spare') → CountsOf s row spare row' spare' K r
   counts n start goal e f g (Ok number) h =
-      let at : (k u v : ℕ) → Type 0 = λ k u v. Counted (both_ends (stands_at K s)) k u v row spare row' spare' number in
-      (below, subst (λ (k : ℕ). at k (number_of (K.start s)) (number_of (K.goal s))) e (subst (λ (u : ℕ). at n u (number_of (K.goal s))) f (subst (λ (v : ℕ). at n start v) g h)))
+      (below, rw (e, f, g) at h)
   counts n start goal e f g (Err fault) h = inr (below, h)

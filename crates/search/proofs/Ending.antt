@@ -50,9 +50,7 @@ module _ (P : Search) where
       where
         go : (v : Verdict) → t.verdict ≡ v → Well (turn_from P limit t v)
         go working e = at_well t.nodes (cheapest P.setting t.nodes) refl
-        go (solved k) e = h
-        go none e = h
-        go full e = h
+        go v e = h
 
     pub turns_bounded : (n : ℕ) → Well (turns P limit n)
     unfolding turns root

@@ -1,5 +1,6 @@
 -- A search that is idle or open, and one that goes on by some turns.
 use Rattle.std.proofs.Common.{◌≡◌, ℕ, suc, ◌+◌, ◌≤◌, Some, sym, refl, ap, ◌∙◌, subst, arith}
+use Rattle.std.proofs.Math.Nat.{add-zero}
 use Rattle.std.proofs.lemmas.Option.{none-some, same_Some}
 use Rattle.split.specs.Situations.{Sets}
 use Rattle.tree.specs.Tree.{Tree, turns_made}
@@ -21,8 +22,12 @@ module _ {F R : Type 0} (sets : R → Sets) (s : Search F R) {A : Type 0} {W : (
   when_open x e h = record { idle = λ i. absurd (none-some x (sym i ∙ e)); opened = λ K limit n o. h K limit n o (same_Some o.holds x (sym o.is_open ∙ e)) }
 
 -- a problem's instance and rule make its model
-pub same_model : {R : Type 0} (sets : R → Sets) (i k : Instance) (r q : R) → i ≡ k → r ≡ q → model_of (task_in i) (sets r) ≡ model_of (task_in k) (sets q)
-same_model sets i k r q e f = λ j. model_of (task_in (e j)) (sets (f j))
+pub same_model : {R : Type 0} (sets : R → Sets) {i k : Instance} {r q : R} → i ≡ k → r ≡ q → model_of (task_in i) (sets r) ≡ model_of (task_in k) (sets q)
+same_model sets e f = λ j. model_of (task_in (e j)) (sets (f j))
+
+-- a call that grants no turns leaves the search where it is
+pub stays : {F R : Type 0} {sets : R → Sets} {s : Search F R} {K : Task} {limit n : ℕ} → OpenedAt sets s K limit n → OpenedAt sets s K limit (n + 0)
+stays o = rw add-zero o
 
 module _ {F R : Type 0} (sets : R → Sets) (s : Search F R) (x : Opened) (K : Task) (limit n : ℕ) (o : OpenedAt sets s K limit n) (held : o.holds ≡ x) where
   pub same_task : task_in x.instance ≡ K
@@ -34,12 +39,10 @@ module _ {F R : Type 0} (sets : R → Sets) (s : Search F R) (x : Opened) (K : T
     same = subst (λ (k : Task). Answers (model_of k (sets s.rule)) s.engine e c a) same_task h
 
     pub told_at : a ≡ calls.reply (planning sets s K) limit (tree_after sets s K limit n) c
-    told_at = subst (λ (l : ℕ). a ≡ calls.reply (planning sets s K) l (tree_after sets s K limit n) c) o.limit_is (same.told (tree_after sets s K limit n) o.tree_is)
+    told_at = rw o.limit_is at (same.told (tree_after sets s K limit n) o.tree_is)
 
     pub goes_to : IsAt (model_of K (sets s.rule)) e (calls.after (planning sets s K) limit (tree_after sets s K limit n) c)
-    goes_to =
-        subst (λ (l : ℕ). IsAt (model_of K (sets s.rule)) e (calls.after (planning sets s K) l (tree_after sets s K limit n) c)) o.limit_is
-        (same.goes (tree_after sets s K limit n) o.tree_is)
+    goes_to = rw o.limit_is at (same.goes (tree_after sets s K limit n) o.tree_is)
 
   -- the search with another engine and another count of turns
   abbrev gone : Engine → ℕ → Search F R

@@ -1,11 +1,11 @@
 -- How long the plan of a solved tree lasts.
-use Rattle.std.proofs.Common.{◌≡◌, ℕ, List, Option, sym, refl, ap, subst}
+use Rattle.std.proofs.Common.{◌≡◌, ℕ, List, Option, sym, refl, subst}
 use Rattle.std.specs.Option.{ok_or}
 use Rattle.fault.specs.declared.cause.Cause.TheVariants.{NotSolved}
 use Rattle.fault.specs.Causes.{fault_at}
 use Rattle.split.specs.Situations.{Sets}
 use Rattle.tree.specs.Plans.{IsPlan}
-use Rattle.tree.specs.Tree.{Node, Tree, Verdict, working, solved, none, full, turns}
+use Rattle.tree.specs.Tree.{Node, Tree, Verdict, solved, turns}
 use Rattle.tree.specs.Calls.{routes_at}
 use Rattle.tree.proofs.Choice.{planner_keeps_terms}
 use Rattle.tree.proofs.Optimal.{solved_is_least_sum}
@@ -25,10 +25,8 @@ use Rattle.search.proofs.Going.{same_task}
 
 -- the engine's answer in the words of a search
 told_last : (K : Task) (nodes : List Node) (v : Verdict) (r : Option ℕ) → r ≡ makespan_told (setting_of K) nodes v → ok_or r (fault_at NotSolved 0) ≡ last_told K nodes v
-told_last K nodes working r e = ap (λ o. ok_or o (fault_at NotSolved 0)) e
-told_last K nodes (solved k) r e = ap (λ o. ok_or o (fault_at NotSolved 0)) e
-told_last K nodes none r e = ap (λ o. ok_or o (fault_at NotSolved 0)) e
-told_last K nodes full r e = ap (λ o. ok_or o (fault_at NotSolved 0)) e
+told_last K nodes (solved k) r e = rw e
+told_last K nodes v r e = rw e
 
 -- a solved tree's routes are a plan, whose makespan is its greatest cost
 module _ (K : Task) (terms : TaskTerms K) (sets : Sets) (split : SplitTerms sets) (limit n : ℕ) where
@@ -36,13 +34,11 @@ module _ (K : Task) (terms : TaskTerms K) (sets : Sets) (split : SplitTerms sets
   t = turns (search_of K sets) limit n
 
   pub greatest_cost : (v : Verdict) → t.verdict ≡ v → IsGreatestCost K t.nodes v
-  greatest_cost working e = tt
   greatest_cost (solved k) e =
       let kept = planner_keeps_terms (setting_of K) (rule_of K sets) (setting_terms K terms) (rule_terms K terms sets split) in
       let (x, at, least, _) = solved_is_least_sum (search_of K sets) kept limit n k e in
       makespans_carry_over K terms (routes_at t.nodes k) (subst (IsPlan (setting_of K)) (sym (routes_nth t.nodes k x at)) least.free.plan)
-  greatest_cost none e = tt
-  greatest_cost full e = tt
+  greatest_cost v e = tt
 
 -- what the engine says of its problem holds of the task that is open
 module _ {F R : Type 0} (sets : R → Sets) (s : Search F R) (x : Opened) (K : Task) (limit n : ℕ) (o : OpenedAt sets s K limit n) (held : o.holds ≡ x) where

@@ -1,5 +1,5 @@
 -- The lines of a report are those of the tree.
-use Rattle.std.proofs.Common.{◌≡◌, ℕ, zero, suc, ◌<◌, List, [], ◌++◌, length, get_or, take, Some, Option, Result, sym, refl, ap, ◌∙◌, subst, ap₂, arith}
+use Rattle.std.proofs.Common.{◌≡◌, ℕ, zero, suc, ◌<◌, List, [], ◌++◌, length, get_or, take, Some, Option, Result, sym, refl, ap, ◌∙◌, ap₂, arith}
 use Rattle.std.proofs.lemmas.List.{append-nil, take-take}
 use Rattle.fault.specs.declared.cause.Fault.{Fault}
 use Rattle.fault.specs.Lines.{Writes}
@@ -36,10 +36,10 @@ module _ (before after : List ℕ) (r : Result ℕ Fault) (P : search.Search) (t
       (same_routes : (k : ℕ) → t.verdict ≡ solved k → (s : ℕ) → s < S.sleds → take (suc S.horizon) (get_or x.routes.now s []) ≡ route (routes_at t.nodes k) s)
       (w : Writes (report_lines x) before after r) where
     writes : (o : Outcome) → x.outcome ≡ o → (lines : List ℕ) → lines_after o (plan_lines x.routes.now x.last (length x.routes.now)) ≡ lines → Writes (outcome_line o x.turns ++ lines) before after r
-    writes o e lines q = subst (λ (bytes : List ℕ). Writes bytes before after r) (report_is x o e ∙ ap (λ (ls : List ℕ). outcome_line o x.turns ++ ls) q) w
+    writes o e lines q = rw (report_is x o e, q) at w
 
     writes_line : (o : Outcome) → x.outcome ≡ o → lines_after o (plan_lines x.routes.now x.last (length x.routes.now)) ≡ [] → Writes (outcome_line o x.turns) before after r
-    writes_line o e q = subst (λ (bytes : List ℕ). Writes bytes before after r) (append-nil (outcome_line o x.turns)) (writes o e [] q)
+    writes_line o e q = rw append-nil at (writes o e [] q)
 
     plan_is : (k : ℕ) → t.verdict ≡ solved k → plan_lines x.routes.now x.last (length x.routes.now) ≡ plan_lines (routes_at t.nodes k) S.horizon S.sleds
     plan_is k e =
@@ -48,7 +48,7 @@ module _ (before after : List ℕ) (r : Result ℕ Fault) (P : search.Search) (t
         (λ s l. sym (take-take (suc S.horizon) (suc S.horizon) (get_or x.routes.now s []) (omega arith)) ∙ ap (take (suc S.horizon)) (same_routes k e s l))
 
     pub printed : (v : Verdict) → t.verdict ≡ v → Bounded P t v → Some x.outcome ≡ outcome_of (bound S t) v → PrintsTree before after r S t x.turns v
-    printed working e b o = let z : ◌≡◌ {A = ℕ} 0 1 = cc in absurd (omega arith)
+    printed working e b o = absurd cc
     printed (solved k) e b o =
         let is : x.outcome ≡ outcomes.Solved (or_0 (bound S t)) = cc in
         writes (outcomes.Solved (sum S (routes_at t.nodes k))) (is ∙ ap (λ (m : Option ℕ). outcomes.Solved (or_0 m)) b) (plan_lines (routes_at t.nodes k) S.horizon S.sleds) (plan_is k e)

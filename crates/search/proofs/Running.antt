@@ -1,12 +1,12 @@
 -- Calls one after the other, from the root on.
-use Rattle.std.proofs.Common.{◌≡◌, ℕ, ◌+◌, List, [], ◌∷◌, ◌++◌, map, sym, refl, ap, ◌∙◌, subst, arith}
+use Rattle.std.proofs.Common.{◌≡◌, ℕ, ◌+◌, List, [], ◌∷◌, ◌++◌, map, refl, ap, ◌∙◌, subst, arith}
 use Rattle.std.proofs.lemmas.List.{map-append}
 use Rattle.fleet.specs.Offsets.{Sleds, FleetTerms}
 use Rattle.split.specs.Situations.{Sets}
 use Rattle.tree.specs.Search as search
 use Rattle.tree.specs.Tree.{turns}
 use Rattle.tree.specs.Calls as tree
-use Rattle.tree.specs.Law.{granted, count}
+use Rattle.tree.specs.Law.{granted}
 use Rattle.engine.specs.declared.call.Call.{Call}
 use Rattle.engine.specs.Calls.{call_of}
 use Rattle.job.specs.declared.job.Job.{Job}
@@ -20,7 +20,7 @@ use Rattle.instance.specs.Instances.{FitsJob}
 use Rattle.search.specs.declared.call.Answer.{Answer}
 use Rattle.search.specs.declared.state.Search.{Search}
 use Rattle.search.specs.Words.{IsAnswer, AreAnswers}
-use Rattle.search.specs.States.{planning, OpenedAt}
+use Rattle.search.specs.States.{planning}
 use Rattle.search.specs.Workings.{events_of, Answers, AllAnswers}
 use Rattle.search.proofs.Turns.{event_at, run_push, granted_push}
 
@@ -55,12 +55,9 @@ module _ {F R : Type 0} (sets : R → Sets) (s : Search F R) where
             let before = h.at K limit o in
             let now = a.at K limit n before.goes in
             let rule = ap sets h.same.rule_kept in
-            let told : IsAnswer (event_at P limit n (call_of c)).answer r = subst (λ (x : Sets). IsAnswer (event_at (search_of K x) limit n (call_of c)).answer r) rule now.told in
-            let goes : OpenedAt sets after K limit (n + count (call_of c) (event_at P limit n (call_of c)).answer) =
-            subst (λ (x : Sets). OpenedAt sets after K limit (n + count (call_of c) (event_at (search_of K x) limit n (call_of c)).answer)) rule now.goes in
             record {
-              told = subst (λ (xs : List tree.Event). AreAnswers xs (rs ++ r ∷ [])) (sym (events_push P limit cs c)) (are_push es rs (event_at P limit n (call_of c)) r before.told told);
-              goes = subst (λ (m : ℕ). OpenedAt sets after K limit m) (sym (ap granted (events_push P limit cs c) ∙ granted_push es (event_at P limit n (call_of c)))) goes;
+              told = rw (events_push P limit cs c) (are_push es rs (event_at P limit n (call_of c)) r before.told (rw rule at now.told));
+              goes = rw (events_push P limit cs c, granted_push es (event_at P limit n (call_of c))) (rw rule at now.goes);
             };
         same = record { fleet_kept = a.same.fleet_kept ∙ h.same.fleet_kept; rule_kept = a.same.rule_kept ∙ h.same.rule_kept };
       }

@@ -1,5 +1,6 @@
 -- Turns that calls are granted, one call after the other.
 use Rattle.std.proofs.Common.{◌≡◌, ℕ, zero, suc, ◌+◌, Bool, true, false, cond, List, [], ◌∷◌, ◌++◌, sym, refl, ap, ◌∙◌, arith}
+use Rattle.std.proofs.Math.Nat.{add-zero}
 use Rattle.std.proofs.lemmas.Bool.{cond_both}
 use Rattle.tree.specs.Search.{Search}
 use Rattle.tree.specs.Tree.{Tree, turn, turns, turns_made, is_working}
@@ -11,13 +12,13 @@ use Rattle.tree.proofs.Limits.{rested}
 module _ (P : Search) (limit : ℕ) where
   pub turns_more : (k n : ℕ) → after_turns P limit k (turns P limit n) ≡ turns P limit (n + k)
   unfolding after_turns
-  turns_more zero n = ap (turns P limit) (let e : n ≡ n + 0 = omega arith in e)
+  turns_more zero n = ap (turns P limit) (sym (add-zero n))
   turns_more (suc k) n =
       ap (after_turns P limit k) (sym (turns_suc P limit n)) ∙ turns_more k (suc n) ∙ ap (turns P limit) (let e : suc n + k ≡ n + suc k = omega arith in e)
 
   module _ (n : ℕ) where
     advance_after : (b : Bool) → is_working (turns P limit n).verdict ≡ b → (k m : ℕ) → after_turns P limit k (turns P limit n) ≡ turns P limit (n + if_made (advanced b k m) k)
-    advance_after false w k m = turns_more k n ∙ (rested P limit n (n + k) (omega arith) w).tree ∙ ap (turns P limit) (let e : n ≡ n + 0 = omega arith in e)
+    advance_after false w k m = turns_more k n ∙ (rested P limit n (n + k) (omega arith) w).tree ∙ ap (turns P limit) (sym (add-zero n))
     advance_after true w zero m = turns_more 0 n
     advance_after true w (suc k) m = turns_more (suc k) n
 
@@ -25,9 +26,9 @@ module _ (P : Search) (limit : ℕ) where
     pub after_is : (c : Call) → after P limit (turns P limit n) c ≡ turns P limit (n + count c (reply P limit (turns P limit n) c))
     unfolding after reply
     after_is (advance k) = advance_after (is_working (turns P limit n).verdict) refl k (made_by P limit k (turns P limit n))
-    after_is ask_bound = ap (turns P limit) (let e : n ≡ n + 0 = omega arith in e)
-    after_is ask_verdict = ap (turns P limit) (let e : n ≡ n + 0 = omega arith in e)
-    after_is (ask_place s t) = ap (turns P limit) (let e : n ≡ n + 0 = omega arith in e)
+    after_is ask_bound = ap (turns P limit) (sym (add-zero n))
+    after_is ask_verdict = ap (turns P limit) (sym (add-zero n))
+    after_is (ask_place s t) = ap (turns P limit) (sym (add-zero n))
 
   -- the event of a call at the tree after n turns
   abbrev pub event_at : ℕ → Call → Event
@@ -37,7 +38,7 @@ module _ (P : Search) (limit : ℕ) where
   pub run_push : (cs : List Call) (c : Call) (n : ℕ) →
       run P limit (turns P limit n) (cs ++ c ∷ []) ≡ run P limit (turns P limit n) cs ++ event_at (n + granted (run P limit (turns P limit n) cs)) c ∷ []
   unfolding run granted
-  run_push [] c n = ap {B = List Event} (λ (m : ℕ). event_at m c ∷ []) (let e : n ≡ n + 0 = omega arith in e)
+  run_push [] c n = rw add-zero
   run_push (d ∷ ds) c n =
       let k = count d (reply P limit (turns P limit n) d) in
       let at : after P limit (turns P limit n) d ≡ turns P limit (n + k) = after_is n d in
@@ -54,7 +55,7 @@ module _ (P : Search) (limit : ℕ) where
 
   pub made_more : (k n : ℕ) → turns_made P limit n + made_by P limit k (turns P limit n) ≡ turns_made P limit (n + k)
   unfolding made_by
-  made_more zero n = omega (arith, ap (turns_made P limit) (let e : n ≡ n + 0 = omega arith in e))
+  made_more zero n = omega (arith, ap (turns_made P limit) (add-zero n))
   made_more (suc k) n =
       cond_both (is_working (turns P limit n).verdict) (suc (made_by P limit k (turn P limit (turns P limit n)))) 0 (λ x. turns_made P limit n + x ≡ turns_made P limit (n + suc k))
       (λ w.

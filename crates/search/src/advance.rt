@@ -11,9 +11,7 @@ impl<F: Fleet, R: SplitRule> Search<F, R> {
     pub fn advance(&mut self, count: u32) -> Result<u32, Fault>
         ensures { Advances R.SplitRule.sets self.old self.new count result }
     {
-        let Some(opened) = self.opened.as_mut() else {
-            return Err(Cause::WrongState.at(0));
-        };
+        let opened = self.opened.as_mut().ok_or(Cause::WrongState)?;
         let problem = opened.problem(&self.rule);
         let made = self.engine.advance(&problem, count)?;
         opened.turns = opened.turns.saturating_add(made);

@@ -9,7 +9,6 @@ use engine::Engine;
 use fault::cause::{Cause, Fault};
 use fleet::Fleet;
 use instance::instance::Instance;
-use instance::ruled::Ruled;
 use job::job::Job;
 use split::SplitRule;
 use std::alloc::{AllocError, Global};
@@ -35,15 +34,15 @@ impl<F: Fleet, R: SplitRule> Search<F, R> {
         ensures { Opens F.Fleet.size F.Fleet.offsets R.SplitRule.sets job.now self.old self.new result }
     {
         if self.opened.is_some() {
-            return Err(Cause::SearchNotIdle.at(0));
+            return Err(Cause::SearchNotIdle.into());
         }
-        let instance = Instance::of(job, &self.fleet)?;
-        let problem = Ruled {
-            instance: &instance,
-            rule: &self.rule,
+        let opened = Opened {
+            instance: Instance::of(job, &self.fleet)?,
+            turns: 0,
         };
+        let problem = opened.problem(&self.rule);
         self.engine.open(&problem, job.limit());
-        self.opened = Some(Opened { instance, turns: 0 });
+        self.opened = Some(opened);
         Ok(())
     }
 

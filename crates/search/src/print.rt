@@ -19,12 +19,8 @@ impl<F: Fleet, R: SplitRule> Search<F, R> {
     pub fn print(&self, out: &mut [u8]) -> Result<usize, Fault>
         ensures { Prints out.old out.new result R.SplitRule.sets self.now }
     {
-        let Some(opened) = &self.opened else {
-            return Err(Cause::WrongState.at(0));
-        };
-        let Some(outcome) = self.outcome() else {
-            return Err(Cause::WrongState.at(0));
-        };
+        let opened = self.opened.as_ref().ok_or(Cause::WrongState)?;
+        let outcome = self.outcome().ok_or(Cause::WrongState)?;
         let problem = opened.problem(&self.rule);
         let routes = plan(&self.engine, &problem);
         let sleds = problem.sleds();
@@ -57,7 +53,7 @@ impl<F: Fleet, R: SplitRule> Search<F, R> {
     fn least_sum(&self) -> usize
         ensures { TellsSum R.SplitRule.sets self.now result }
     {
-        self.engine.bound().map_or(0, |sum| sum as usize)
+        self.engine.bound().map_or(0, usize::from)
     }
 }
 

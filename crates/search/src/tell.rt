@@ -13,9 +13,7 @@ impl<F: Fleet, R: SplitRule> Search<F, R> {
     pub fn bound(&self) -> Result<Option<u16>, Fault>
         ensures { TellsBound R.SplitRule.sets self.now result }
     {
-        let Some(_) = self.opened else {
-            return Err(Cause::WrongState.at(0));
-        };
+        self.opened.as_ref().ok_or(Cause::WrongState)?;
         Ok(self.engine.bound())
     }
 
@@ -32,9 +30,7 @@ impl<F: Fleet, R: SplitRule> Search<F, R> {
     pub fn place(&self, sled: usize, instant: usize) -> Result<Place, Fault>
         ensures { TellsPlace R.SplitRule.sets self.now sled instant result }
     {
-        let Some(opened) = &self.opened else {
-            return Err(Cause::NotSolved.at(0));
-        };
+        let opened = self.opened.as_ref().ok_or(Cause::NotSolved)?;
         let problem = opened.problem(&self.rule);
         let number = self.engine.place(&problem, sled, instant)?;
         Ok(Place::from(number))
@@ -44,10 +40,10 @@ impl<F: Fleet, R: SplitRule> Search<F, R> {
     pub fn makespan(&self) -> Result<u8, Fault>
         ensures { TellsMakespan R.SplitRule.sets self.now result }
     {
-        let Some(opened) = &self.opened else {
-            return Err(Cause::NotSolved.at(0));
-        };
+        let opened = self.opened.as_ref().ok_or(Cause::NotSolved)?;
         let problem = opened.problem(&self.rule);
-        self.engine.makespan(&problem).ok_or(Cause::NotSolved.at(0))
+        self.engine
+            .makespan(&problem)
+            .ok_or(Cause::NotSolved.into())
     }
 }

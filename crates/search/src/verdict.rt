@@ -5,8 +5,8 @@ ghost use Rattle.search.specs.Words.{verdict_of};
 
 use engine::call::Status;
 
-// Nothing is opened; it goes on; it has found the plan; there is no plan to find; there is no room for more nodes. An option of the
-// tree's four words is no plainer: a search that has not ended would then be told as None or as Some(Working).
+// Nothing is opened; it goes on; it has found the plan; there is no plan to find; there is no room for more nodes. As an option of the
+// engine's four words, an idle search would be told as `None`, which is the word for a job without a plan.
 #[derive(Clone, Copy, PartialEq, Debug)]
 pub enum Verdict {
     Idle,

@@ -34,18 +34,18 @@ mod tests {
         let job = job_of(&rt, ENDS);
         let mut search = Search::new(rt.alloc(), fleet_of(&job), SharedCell)?;
         assert_eq!(rt; search.verdict(), Verdict::Idle);
-        assert_eq!(rt; search.advance(1), Err(Cause::WrongState.at(0)));
-        assert_eq!(rt; search.bound(), Err(Cause::WrongState.at(0)));
+        assert_eq!(rt; search.advance(1), Err(Cause::WrongState.into()));
+        assert_eq!(rt; search.bound(), Err(Cause::WrongState.into()));
         assert_eq!(rt; search.open(&job), Ok(()));
-        assert_eq!(rt; search.open(&job), Err(Cause::SearchNotIdle.at(0)));
-        assert_eq!(rt; search.advance(0), Err(Cause::NoTurns.at(0)));
+        assert_eq!(rt; search.open(&job), Err(Cause::SearchNotIdle.into()));
+        assert_eq!(rt; search.advance(0), Err(Cause::NoTurns.into()));
         assert_eq!(rt; search.bound(), Ok(Some(4)));
         assert_eq!(rt; search.advance(1), Ok(1));
         assert_eq!(rt; search.bound(), Ok(None));
         assert_eq!(rt; search.verdict(), Verdict::Working);
         assert_eq!(rt; search.advance(9), Ok(1));
         assert_eq!(rt; search.verdict(), Verdict::NoPlan);
-        assert_eq!(rt; search.advance(1), Err(Cause::WrongState.at(0)));
+        assert_eq!(rt; search.advance(1), Err(Cause::WrongState.into()));
         search.clear();
         assert_eq!(rt; search.verdict(), Verdict::Idle);
         Ok(())

@@ -1,6 +1,6 @@
 -- The places that cover the first shared cell.
 use Rattle.std.specs.Prelude.{◌≡◌, true, ◌&&◌, ◌⊎◌, ℤ, pos, ◌-ℤ◌, ◌≤ℤ◌, ◌<ℤ◌, Decides, nat_lt}
-use Rattle.std.proofs.Common.{sym, ◌∙◌, ⊎_elim, arith}
+use Rattle.std.proofs.Common.{sym, ◌∙◌, arith}
 use Rattle.std.proofs.lemmas.Int.{ints}
 use Rattle.std.proofs.lemmas.Bool.{and_parts, and_from, ltb-true, lt-ltb}
 use Rattle.grid.specs.declared.position.Position.{Position}
@@ -27,11 +27,7 @@ both_cover first u second v near x y one two =
     })
 
 least_both : (x y x' y' : ℤ) → (y <ℤ y') ⊎ ((y ≡ y') × (x ≤ℤ x')) → (y' <ℤ y) ⊎ ((y' ≡ y) × (x' ≤ℤ x)) → (x ≡ x') × (y ≡ y')
-least_both x y x' y' p q =
-    ⊎_elim
-    (λ less. ⊎_elim (λ more. (absurd (omega (arith, ints)), absurd (omega (arith, ints)))) (λ (same, _). (absurd (omega (arith, ints)), absurd (omega (arith, ints)))) q)
-    (λ (same, left). ⊎_elim (λ more. (absurd (omega (arith, ints)), absurd (omega (arith, ints)))) (λ (_, right). (omega (arith, ints), same)) q)
-    p
+least_both x y x' y' p q = (grind (arith, ints, p, q), grind (arith, ints, p, q))
 
 -- there is but one first shared cell
 first_one : (first : Offsets) (u : Position) (second : Offsets) (v : Position) (x y x' y' : ℤ) → FirstShared first u second v x y → FirstShared first u second v x' y' → (x ≡ x') × (y ≡ y')

@@ -8,7 +8,7 @@ ghost use Rattle.std.proofs.Common.{rules};
 
 use crate::SplitRule;
 use crate::pair::{Pair, Side};
-use crate::single::do_meet;
+use crate::single::meets;
 use fleet::Fleet;
 use geometry::sharing::shares_cell;
 use grid::place::Place;
@@ -33,7 +33,7 @@ impl SplitRule for OneSided {
 
     // As with single places but for the upper side; a function for both would take that side as a closure.
     fn contains<F: Fleet>(&self, fleet: &F, pair: Pair, side: Side, w: Place) -> bool {
-        do_meet(fleet, pair)
+        meets(fleet, pair)
             && match side {
                 Side::Lower => w == pair.u,
                 Side::Upper => shares_cell(fleet, Pair { v: w, ..pair }),

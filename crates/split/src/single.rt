@@ -13,7 +13,8 @@ use grid::place::Place;
 #[derive(Clone, Copy)]
 pub struct Single;
 
-pub(crate) fn do_meet<F: Fleet>(fleet: &F, pair: Pair) -> bool
+// Whether the sleds of a pair come in order and share a cell.
+pub(crate) fn meets<F: Fleet>(fleet: &F, pair: Pair) -> bool
     ensures { result ≡ meet (situation (F.Fleet.size fleet.now) (F.Fleet.offsets fleet.now) pair) }
 {
     pair.i < pair.j && shares_cell(fleet, pair)
@@ -31,7 +32,7 @@ impl SplitRule for Single {
     ghost only = { Prim.search rules };
 
     fn contains<F: Fleet>(&self, fleet: &F, pair: Pair, side: Side, w: Place) -> bool {
-        do_meet(fleet, pair)
+        meets(fleet, pair)
             && match side {
                 Side::Lower => w == pair.u,
                 Side::Upper => w == pair.v,

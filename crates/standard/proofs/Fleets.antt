@@ -1,6 +1,6 @@
 -- A fleet with the shapes of a job's sleds and with their skirts has the sets of the job.
 use Rattle.std.proofs.Common.{◌≡◌, ℕ, ◌+◌, ◌-◌, ◌<◌, ◌≤◌, false, cond, ◌&&◌, ltb, leb, ◌≢◌, List, ◌++◌, map, length, get_or, set, ℤ, Some, None, sym, refl, ap, ◌∙◌, ⊎_elim, arith, below_more}
-use Rattle.std.proofs.lemmas.List.{length-map, get_or-map, get_or-set_same, get_or-set_other}
+use Rattle.std.proofs.lemmas.List.{length-map, length-set, get_or-map, get_or-set_same, get_or-set_other}
 use Rattle.std.proofs.lemmas.Bool.{and_from, and_left, and_right, cases_lt, le-ltb, lt-ltb, le-leb, cond-true, cond-false}
 use Rattle.fault.specs.declared.cause.Fault.{Fault}
 use Rattle.fleet.specs.declared.skirt.Skirt.{Skirt}
@@ -32,16 +32,18 @@ use Rattle.standard.proofs.SledLists.{sleds_of_append, sleds_of_map}
 pub record Built (sleds : List SledValue) (n : ℕ) (f : Skirt (Convoy Rectangles Outlines)) : Type 0 where
   pub rectangles : all_sides f.inner.first ≡ all_sides_of sleds
   pub outlines : all_rows f.inner.second ≡ all_rows_of sleds
+  pub whole : length (margins_of f) ≡ 6
   pub skirts : (k : ℕ) → k < n → get_or (margins_of f) k 0 ≡ (get_or sleds k smallest_sled).skirt
 
 -- one skirt more
 pub built_next : (sleds : List SledValue) (n m : ℕ) (before after : Skirt (Convoy Rectangles Outlines)) → n < 6 → m ≡ (get_or sleds n smallest_sled).skirt → margins_of after ≡ set (margins_of before) n m → after.inner ≡ before.inner → Built sleds n before → Built sleds (n + 1) after
 built_next sleds n m before after below is given same built =
-    let whole = before.whole in
-    let listed : n < length (margins_of before) = simp length-map (omega arith) in
+    let whole = built.whole in
+    let listed : n < length (margins_of before) = omega arith in
     record {
       rectangles = ap (λ c. all_sides c.first) same ∙ built.rectangles;
       outlines = ap (λ c. all_rows c.second) same ∙ built.outlines;
+      whole = ap length given ∙ (length-set (margins_of before) n m ∙ whole);
       skirts =
           below_more _ n
           (λ k less. let other : k ≢ n = omega arith in ap (λ l. get_or l k 0) given ∙ (get_or-set_other (margins_of before) n k m 0 other ∙ built.skirts k less))
@@ -122,7 +124,7 @@ module _ (j : Job) (n : ℕ) (f : Skirt (Convoy Rectangles Outlines)) (built : B
       ⊎_elim
       (λ below.
       let six = at_most_six j in
-      let whole = f.whole in
+      let whole = simp length-map at built.whole in
       let margin = sym (get_or-map (λ m. m.cells) f.margins s no_margin 0 (omega arith)) ∙ built.skirts s (omega arith) in
       ap (λ m. skirt m (convoy_offsets f.inner s) x y) margin
       ∙ (ap (λ (set : Offsets). skirt (get_or sleds s smallest_sled).skirt set x y) (shape_at s below)

@@ -4,7 +4,7 @@ use Rattle.std.proofs.lemmas.Int.{ints}
 use Rattle.std.specs.List.{All, list_any}
 use Rattle.std.proofs.lemmas.List.{take_all}
 use Rattle.std.proofs.lemmas.List.Elements.{All-from_get_or}
-use Rattle.std.proofs.lemmas.Bool.{and_parts, and_from, or_cases, or_right, not-true, cases_Bool, both_ways, false≢true}
+use Rattle.std.proofs.lemmas.Bool.{and_parts, and_from, or_cases, or_right, not-true, false_from_ne_true, both_ways, false≢true}
 use Rattle.std.proofs.lemmas.Bool.Decides.{nat_tests}
 use Rattle.fleet.specs.Scans.{within}
 use Rattle.fleet.specs.Outlined.{is_drawn}
@@ -53,13 +53,11 @@ module _ (shape : Shape) (m : ℕ) (small : m ≤ 3) (ok : shape_ok shape ≡ tr
   -- a skirt that does not outgrow its shape is not cut
   pub not_cut : outgrown shape m ≡ false → is_cut m (shape_offsets shape) ≡ false
   not_cut near =
-      ⊎_elim
+      false_from_ne_true (is_cut m (shape_offsets shape))
       (λ e.
       let (x, y, _, _, hit) = offset_is (reaches_past m (shape_offsets shape)) e in
       let (has, far) = and_parts (shape_offsets shape x y) (not (within (7 - m) x && within (7 - m) y)) hit in
-      absurd (both_ways _ near (reaching_past x y has (not-true _ far))))
-      (λ e. e)
-      (cases_Bool (is_cut m (shape_offsets shape)))
+      both_ways _ near (reaching_past x y has (not-true _ far)))
 
 some_byte : (rows : List ℕ) → All (λ row. row < 256) rows → some_row rows ≡ true → list_any (λ row. not (row % 256 == 0)) rows ≡ true
 some_byte [] bytes e = absurd (false≢true e)

@@ -1,7 +1,7 @@
 -- Tables that say the offsets of each sled of a fleet are that fleet.
 use Rattle.std.proofs.Common.{◌≡◌, ℕ, ◌<◌, true, ◌&&◌, ltb, List, get_or, ℤ, sym, ap, ◌∙◌, ⊎_elim, arith}
 use Rattle.std.proofs.lemmas.Int.{ints}
-use Rattle.std.proofs.lemmas.Bool.{cases_lt, cases_Bool, lt-ltb, le-ltb}
+use Rattle.std.proofs.lemmas.Bool.{cases_lt, false_from_ne_true, lt-ltb, le-ltb}
 use Rattle.fleet.specs.Offsets.{Sleds, Near, OnlyBelow, AllNear, NoneEmpty}
 use Rattle.fleet.specs.Scans.{within, some_offset}
 use Rattle.fleet.specs.ScansLemmas.{offset_found}
@@ -21,7 +21,7 @@ module _ (n : ℕ) (sleds : Sleds) (near : AllNear sleds) (tables : List (Table 
   copy_is only s x y =
       ⊎_elim
       (λ h. ap (λ t. t && set_of 7 (get_or tables s no_table).rows x y) (lt-ltb s n h) ∙ copied s h x y)
-      (λ h. ap (λ t. t && set_of 7 (get_or tables s no_table).rows x y) (le-ltb s n h) ∙ ⊎_elim (λ has. let below = only s x y has in absurd (omega arith)) (λ none. sym none) (cases_Bool (sleds s x y)))
+      (λ h. ap (λ t. t && set_of 7 (get_or tables s no_table).rows x y) (le-ltb s n h) ∙ sym (false_from_ne_true (sleds s x y) (λ has. let below = only s x y has in omega arith)))
       (cases_lt s n)
 
   pub copy_some : NoneEmpty n sleds → each_below (λ s. some_offset (set_of 7 (get_or tables s no_table).rows)) n ≡ true

@@ -1,7 +1,7 @@
 -- Sharing and colliding by the differences of two sleds.
-use Rattle.std.proofs.Common.{◌≡◌, zero, suc, Bool, true, false, ◌&&◌, ◌||◌, ◌⊎◌, [], ◌∷◌, ℤ, pos, negsuc, ◌+ℤ◌, ◌-ℤ◌, Decides, refl, sym, ◌∙◌, inl, inr, ⊎_elim, arith}
+use Rattle.std.proofs.Common.{◌≡◌, zero, suc, Bool, true, false, ◌&&◌, ◌||◌, ◌⊎◌, [], ◌∷◌, ℤ, pos, negsuc, ◌+ℤ◌, ◌-ℤ◌, Decides, sym, ◌∙◌, ⊎_elim, arith}
 use Rattle.std.specs.List.{list_any}
-use Rattle.std.proofs.lemmas.Int.{ints, by_lt_z}
+use Rattle.std.proofs.lemmas.Int.{ints}
 use Rattle.std.proofs.lemmas.Bool.{and_parts, and_from, or_cases, or_left, or_right}
 use Rattle.std.proofs.lemmas.Bool.Decides.{same_from_decides}
 use Rattle.grid.specs.declared.moves.Move.{Move}
@@ -48,44 +48,26 @@ module _ (first second : Offsets) where
 -- at a step of at most two, there are but three places on the way
 
 three : (z step : ℤ) → Short step → OnWay z step → (z ≡ pos 0) ⊎ ((z +ℤ half step ≡ pos 0) ⊎ (z +ℤ step ≡ pos 0))
-three z (pos zero) h w = inl (⊎_elim (λ (p, q). omega (arith, ints)) (λ (p, q). omega (arith, ints)) w)
-three z (pos (suc zero)) h w =
-    by_lt_z z (pos 0)
-    (λ less. inr (inr (⊎_elim (λ (p, q). omega (arith, ints)) (λ (p, q). omega (arith, ints)) w)))
-    (λ more. inl (⊎_elim (λ (p, q). omega (arith, ints)) (λ (p, q). omega (arith, ints)) w))
-three z (pos (suc (suc zero))) h w =
-    by_lt_z z (pos 0)
-    (λ less.
-    by_lt_z z (negsuc 0)
-    (λ least. inr (inr (⊎_elim (λ (p, q). omega (arith, ints)) (λ (p, q). omega (arith, ints)) w)))
-    (λ middle. inr (inl (⊎_elim (λ (p, q). omega (arith, ints)) (λ (p, q). omega (arith, ints)) w))))
-    (λ more. inl (⊎_elim (λ (p, q). omega (arith, ints)) (λ (p, q). omega (arith, ints)) w))
+three z (pos zero) h w = grind (arith, ints, w)
+three z (pos (suc zero)) h w = grind (arith, ints, w)
+three z (pos (suc (suc zero))) h w = grind (arith, ints, w)
 three z (pos (suc (suc (suc n)))) (low, high) w = absurd (omega (arith, ints))
-three z (negsuc zero) h w =
-    by_lt_z (pos 0) z
-    (λ more. inr (inr (⊎_elim (λ (p, q). omega (arith, ints)) (λ (p, q). omega (arith, ints)) w)))
-    (λ less. inl (⊎_elim (λ (p, q). omega (arith, ints)) (λ (p, q). omega (arith, ints)) w))
-three z (negsuc (suc zero)) h w =
-    by_lt_z (pos 0) z
-    (λ more.
-    by_lt_z (pos 1) z
-    (λ most. inr (inr (⊎_elim (λ (p, q). omega (arith, ints)) (λ (p, q). omega (arith, ints)) w)))
-    (λ middle. inr (inl (⊎_elim (λ (p, q). omega (arith, ints)) (λ (p, q). omega (arith, ints)) w))))
-    (λ less. inl (⊎_elim (λ (p, q). omega (arith, ints)) (λ (p, q). omega (arith, ints)) w))
+three z (negsuc zero) h w = grind (arith, ints, w)
+three z (negsuc (suc zero)) h w = grind (arith, ints, w)
 three z (negsuc (suc (suc n))) (low, high) w = absurd (omega (arith, ints))
 
 half_way : (step z : ℤ) → Short step → z +ℤ half step ≡ pos 0 → OnWay z step
-half_way (pos zero) z h e = inl (omega (arith, ints), omega (arith, ints))
-half_way (pos (suc zero)) z h e = inl (omega (arith, ints), omega (arith, ints))
-half_way (pos (suc (suc n))) z h e = inl (omega (arith, ints), omega (arith, ints))
-half_way (negsuc zero) z h e = inr (omega (arith, ints), omega (arith, ints))
-half_way (negsuc (suc n)) z h e = inr (omega (arith, ints), omega (arith, ints))
+half_way (pos zero) z h e = grind (arith, ints)
+half_way (pos (suc zero)) z h e = grind (arith, ints)
+half_way (pos (suc (suc n))) z h e = grind (arith, ints)
+half_way (negsuc zero) z h e = grind (arith, ints)
+half_way (negsuc (suc n)) z h e = grind (arith, ints)
 
 whole_way : (step z : ℤ) → z +ℤ step ≡ pos 0 → OnWay z step
-whole_way step z e = by_lt_z step (pos 0) (λ less. inr (omega (arith, ints), omega (arith, ints))) (λ more. inl (omega (arith, ints), omega (arith, ints)))
+whole_way step z e = grind (arith, ints)
 
 no_way : (step z : ℤ) → z ≡ pos 0 → OnWay z step
-no_way step z e = by_lt_z step (pos 0) (λ less. inr (omega (arith, ints), omega (arith, ints))) (λ more. inl (omega (arith, ints), omega (arith, ints)))
+no_way step z e = grind (arith, ints)
 
 swept_told : (p : ℤ → Bool) (x step : ℤ) → Short step → Decides (swept p x step) ((y : ℤ) × OnWay (x -ℤ y) step × (p y ≡ true))
 swept_told p x step short = (
@@ -104,10 +86,7 @@ swept_told p x step short = (
 )
 
 or_three : (a b c : Bool) → (a || (b || (c || false))) ≡ ((a || b) || c)
-or_three true b c = refl
-or_three false true c = refl
-or_three false false true = refl
-or_three false false false = refl
+or_three a b c = grind arith
 
 pub swept_is : (p : ℤ → Bool) (x step : ℤ) → list_any p (x ∷ ((x +ℤ half step) ∷ ((x +ℤ step) ∷ []))) ≡ swept p x step
 swept_is p x step = or_three (p x) (p (x +ℤ half step)) (p (x +ℤ step))

@@ -1,15 +1,16 @@
 -- What a table says.
-use Rattle.std.specs.Prelude.{◌≡◌, ℕ, zero, suc, ◌<◌, Bool, true, false, ◌&&◌, ◌⊎◌, List, [], ℤ, pos, ◌+ℤ◌, ◌-ℤ◌, neg_ℤ, ◌≤ℤ◌, int_le, slice_index_or, unsigned_abs, refl}
-use Rattle.std.proofs.Common.{sym, ap, subst, ◌∙◌, ⊎_elim, inl, inr, arith}
+use Rattle.std.specs.Prelude.{◌≡◌, ℕ, ◌<◌, Bool, true, false, ◌&&◌, List, [], ℤ, pos, ◌+ℤ◌, ◌-ℤ◌, neg_ℤ, ◌≤ℤ◌, Decides, slice_index_or, unsigned_abs, refl}
+use Rattle.std.proofs.Common.{sym, ap, ◌∙◌, ⊎_elim, arith}
 use Rattle.std.proofs.lemmas.Int.{ints}
-use Rattle.std.proofs.lemmas.Bool.{and_parts, and_from, both_ways, cases_Bool, cases_eq}
+use Rattle.std.proofs.lemmas.Bool.{and_parts, and_from, both_ways, cases_Bool, false_from_ne_true}
+use Rattle.std.proofs.lemmas.Bool.Decides.{Decides-below_and}
 use Rattle.fleet.specs.Offsets.{Offsets}
 use Rattle.fleet.specs.Scans.{within}
 use Rattle.tables.specs.Tables.{side, set_of, Says, each_below}
 
 module _ (n : ℕ) (z : ℤ) (e : within n z ≡ true) where
   pub bounds : (neg_ℤ (pos n) ≤ℤ z) × (z ≤ℤ pos n)
-  bounds = let (low, high) = and_parts (int_le (neg_ℤ (pos n)) z) (int_le z (pos n)) e in (omega (arith, ints, low), omega (arith, ints, high))
+  bounds = (grind (arith, ints, e), grind (arith, ints, e))
 
   pub at_below : unsigned_abs (z +ℤ pos n) < side n
   at_below = let (low, high) = bounds in omega (arith, ints)
@@ -27,18 +28,15 @@ says_set n set rows says near x y =
     ap (λ t. t && entry) e ∙ says _ _ (at_below n x ex) (at_below n y ey) ∙ λ i. set (part_at n x ex i) (part_at n y ey i))
     (λ e.
     ap (λ t. t && entry) e
-    ∙ ⊎_elim (λ hit. let (ex, ey) = near x y hit in absurd (both_ways _ e (and_from (within n x) (within n y) ex ey))) (λ none. sym none) (cases_Bool (set x y)))
+    ∙ sym (false_from_ne_true (set x y) (λ hit. let (ex, ey) = near x y hit in both_ways _ e (and_from (within n x) (within n y) ex ey))))
     (cases_Bool (within n x && within n y))
 
-last_or : (n s : ℕ) → s < suc n → (n ≡ s) ⊎ (s < n)
-last_or n s h = ⊎_elim inl (λ ne. inr (omega arith)) (cases_eq n s)
+-- the test of each number below n
+each_told : (p : ℕ → Bool) (n : ℕ) → Decides (each_below p n) ((k : ℕ) → k < n → p k ≡ true)
+each_told p n = Decides-below_and p (λ k. p k ≡ true) (each_below p) (λ k. (λ e. e, λ e. e)) refl (λ _. refl) n
 
 pub each_at : (p : ℕ → Bool) (n s : ℕ) → s < n → each_below p n ≡ true → p s ≡ true
-each_at p zero s h e = absurd (omega arith)
-each_at p (suc n) s h e =
-    let (here, rest) = and_parts (p n) (each_below p n) e in
-    ⊎_elim (λ same. subst (λ k. p k ≡ true) same here) (λ less. each_at p n s less rest) (last_or n s h)
+each_at p n s h e = (each_told p n).0 e s h
 
 pub each_from : (p : ℕ → Bool) (n : ℕ) → ((s : ℕ) → s < n → p s ≡ true) → each_below p n ≡ true
-each_from p zero all = refl
-each_from p (suc n) all = and_from (p n) (each_below p n) (all n (omega arith)) (each_from p n (λ s h. all s (omega arith)))
+each_from p n all = (each_told p n).1 all

@@ -7,13 +7,13 @@ use Rattle.fleet.specs.Offsets.{Near, FleetTerms}
 use Rattle.fleet.specs.Scans.{within, some_offset}
 use Rattle.fleet.specs.ScansLemmas.{offset_is}
 use Rattle.tables.specs.declared.tabled.Tabled.{Tabled}
-use Rattle.tables.specs.Entries.{each_at, bounds}
+use Rattle.tables.specs.Entries.{each_at}
 use Rattle.tables.specs.NoTables.{no_table}
 use Rattle.tables.specs.TabledFleets.{tabled_sleds}
 use Rattle.tables.specs.Tables.{set_of}
 
 near : (z : ℤ) → within 7 z ≡ true → Near z
-near z e = let (low, high) = bounds 7 z e in (omega (arith, ints), omega (arith, ints))
+near z e = (grind (arith, ints, e), grind (arith, ints, e))
 
 pub tabled_terms : (t : Tabled) → FleetTerms t.count (tabled_sleds t)
 tabled_terms t =

@@ -2,5 +2,6 @@
 #![tactic(auto)]
 
 pub mod differences;
+mod offsets;
 mod table;
 pub mod tabled;

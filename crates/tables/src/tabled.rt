@@ -10,7 +10,8 @@ use fleet::MAX_SLEDS;
 mod calls;
 
 // A table for each sled that a fleet may have; none of the fleet's is without an offset.
-// The count stands beside them: all tables are made at once, by their numbers, which a list of few could not be.
+// The count stands beside them: `array::from_fn` makes all six from their numbers, where a `Few` would be filled by a loop that says
+// of the tables so far what `from_fn` says of all.
 #[derive(Clone, Copy)]
 pub struct Tabled {
     count: u8,

@@ -1,8 +1,9 @@
 -- Bytes written one after the other into a buffer.
-use Rattle.std.proofs.Common.{◌≡◌, ℕ, ◌+◌, ◌/◌, ◌%◌, ◌^◌, ◌<◌, ◌≤◌, List, [], ◌∷◌, ◌++◌, length, take, drop, set, Some, None, decimal, Option, sym, refl, ap, ◌∙◌, add_assoc, add-one, subst, arith, length-drop}
+use Rattle.std.proofs.Common.{◌≡◌, ℕ, zero, suc, ◌+◌, ◌*◌, ◌/◌, ◌%◌, ◌^◌, ◌<◌, ◌≤◌, List, [], ◌∷◌, ◌++◌, length, take, drop, set, Some, None, decimal, Option, sym, refl, ap, ◌∙◌, add_assoc, add-one, subst, arith, length-drop}
 use Prim.{absurd}
 use Rattle.std.proofs.lemmas.List.{append_assoc, append-nil, length-append, length-take-le, take_at, drop_at, drop-drop, set_split, length_push}
-use Rattle.std.proofs.lemmas.Fmt.{decimal_step, length-decimal-le}
+use Rattle.std.specs.Option.{IfNone, IfSome, MatchOption}
+use Rattle.std.proofs.lemmas.Fmt.{decimal_digit, decimal_step, decimal_nonempty, length-decimal-le}
 use Rattle.text.specs.declared.Text.{Text}
 use Rattle.text.specs.Texts.{written, PutsAt, Puts, TextOf, Appends}
 
@@ -32,6 +33,21 @@ last_digit n h fits = ap length (decimal_step n h fits) ∙ length_push (decimal
 
 pub short_number : (n : ℕ) → n < 2 ^ 64 → length (decimal n) ≤ 20
 short_number n fits = length-decimal-le 20 n (omega arith) (omega arith) fits
+
+ten_pow : (k : ℕ) → 0 < 10 ^ k
+ten_pow zero = omega arith
+ten_pow (suc k) = omega (arith, ten_pow k)
+
+-- from a power of ten on, a number has one digit more than the power
+long_number : (k n : ℕ) → 10 ^ k ≤ n → n < 2 ^ 64 → k + 1 ≤ length (decimal n)
+long_number zero n low fits = decimal_nonempty n fits
+long_number (suc k) n low fits = omega (arith, last_digit n (omega (arith, low, ten_pow k)) fits, long_number k (n / 10) (omega (arith, low)) (omega (arith, fits)))
+
+-- as many digits as the logarithm tells
+pub counted : {P : ℕ → Type 0} (n : ℕ) (o : Option ℕ) (r : ℕ) → n < 2 ^ 64 → IfNone o (n ≡ 0) → IfSome o (λ k. 10 ^ k ≤ n) → IfSome o (λ k. n < 10 * 10 ^ k) → ((k : ℕ) → P k → r ≡ k + 1) → MatchOption o (r ≡ 1) P → r ≡ length (decimal n)
+counted n None r fits none low high told is = is ∙ sym (ap length (decimal_digit n (omega (arith, none))))
+counted n (Some k) r fits none low high told is =
+    omega (arith, told k is, long_number k n low fits, length-decimal-le (suc k) n (omega arith) (omega (arith, high)) fits)
 
 -- what is written fits, so the buffer keeps its length
 pub length_written : (xs : List ℕ) (at : ℕ) (bytes : List ℕ) → at + length bytes ≤ length xs → length (written xs at bytes) ≡ length xs

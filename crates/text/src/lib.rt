@@ -74,10 +74,12 @@ fn digit_count(n: usize) -> usize
     ensures count { result ≡ length (decimal n) }
     ensures few { result ≤ 20 }
 {
-    if n < 10 {
-        return 1;
-    }
-    digit_count(n / 10) + 1
+    n.checked_ilog10().map_or(
+        1,
+        |power|
+            requires { power < 20 }
+        { power as usize + 1 },
+    )
 }
 
 // Writes the digits of a number where there is room for them.

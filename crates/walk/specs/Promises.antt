@@ -1,21 +1,15 @@
 -- What the public calls promise of their answers and of the rows that are lent to them.
-use Rattle.std.specs.Prelude.{◌≡◌, ℕ, ◌-◌, ◌<◌, ◌≤◌, min, Bool, ◌⊎◌, List, ◌∷◌, ◌++◌, length, drop, replicate, Some, None, Option}
+use Rattle.std.specs.Prelude.{◌≡◌, ℕ, ◌-◌, ◌<◌, ◌≤◌, min, Bool, ◌⊎◌, List, ◌∷◌, ◌++◌, length, drop, replicate, Some, None}
 use Rattle.fault.specs.declared.cause.Cause.TheVariants.{BufferTooShort}
 use Rattle.fault.specs.declared.cause.Fault.{Fault}
 use Rattle.fault.specs.Causes.{fault_at}
 use Rattle.walk.specs.declared.count.Count.{Count}
-use Rattle.walk.specs.declared.horizon.Horizon.{Horizon}
 use Rattle.walk.specs.declared.route.Found.{Found}
 use Rattle.walk.specs.Kinds.{count}
 use Rattle.walk.specs.Semiring.{Ops}
 use Rattle.walk.specs.Sequences.{total, Row}
 use Rattle.walk.specs.Routes.{chosen, cheapest_routes, route_cost}
 use Rattle.walk.specs.Plain.{Route, Best}
-
--- the horizon of n steps; none where n is 0 or beyond 63
-abbrev pub HorizonOf : ℕ → Option Horizon → Type 0
-HorizonOf n (Some h) = h.steps ≡ n
-HorizonOf n None = (n ≡ 0) ⊎ (63 < n)
 
 -- a row has fewer than 256 entries: refused, and both rows are as they were
 pub record Refused {W : Type 0} (row spare row' spare' : List W) (fault : Fault) : Type 0 where

@@ -31,7 +31,7 @@ pub(crate) fn earliest<S: Steps<bool>>(steps: &S, errand: Errand) -> Option<u8>
         horizon,
     } = errand;
     let mut row = begin(start);
-    // By hand: each row is made from the row before it.
+    // By hand: a try_fold is no plainer, as it would break off at the answer as at an error, with a match after it to turn the two around.
     for instant in 0..horizon.steps {
         if row[goal as usize] && can_wait(steps, goal, instant, horizon.steps) {
             return Some(instant);

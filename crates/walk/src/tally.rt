@@ -35,7 +35,7 @@ pub fn count_routes<S: Steps<bool>>(
     ensures { MatchResult result (Counted (S.step steps.now) errand.horizon.steps errand.start errand.goal row.old spare.old row.new spare.new) (Refused row.old spare.old row.new spare.new) }
 {
     if row.len() < BOARD_PLACES || spare.len() < BOARD_PLACES {
-        return Err(Cause::BufferTooShort.at(0));
+        return Err(Cause::BufferTooShort.into());
     }
     let count = tally(steps, errand);
     row[..BOARD_PLACES].fill(Count::nought());

@@ -19,7 +19,7 @@ impl Steps<bool> for Closed {
         let Step { instant, from, to } = taken;
         let stands = self.floor.at[from as usize] & self.floor.at[to as usize];
         let leaves = from == self.place && instant == self.instant;
-        let comes = to == self.place && instant as u16 + 1 == self.instant as u16;
+        let comes = to == self.place && u16::from(instant) + 1 == u16::from(self.instant);
         stands & !leaves & !comes
     }
 }

@@ -1,4 +1,5 @@
 // Route counts and the rows that they use.
+use grid::place::BOARD_PLACES;
 use std::test::Fail;
 use walk::count::Count;
 use walk::errand::Errand;
@@ -11,8 +12,8 @@ const SEVEN: Count = Count { value: 7 };
 #[test]
 fn a_count_stops_at_65535(rt: HostRuntime) -> Result<(), Fail> {
     let sled = Standing::open(16, 16);
-    let mut row = [SEVEN; 256];
-    let mut spare = [SEVEN; 256];
+    let mut row = [SEVEN; BOARD_PLACES];
+    let mut spare = [SEVEN; BOARD_PLACES];
     let count = count_routes(
         &sled,
         Errand {
@@ -51,9 +52,9 @@ fn longer_rows_keep_what_stands_past_256(rt: HostRuntime) -> Result<(), Fail> {
 #[test]
 fn short_rows_are_refused_and_kept(rt: HostRuntime) -> Result<(), Fail> {
     let sled = Standing::open(2, 2);
-    let mut row = [SEVEN; 256];
+    let mut row = [SEVEN; BOARD_PLACES];
     let mut spare = [SEVEN; 255];
-    match count_routes(
+    let Err(fault) = count_routes(
         &sled,
         Errand {
             start: 0,
@@ -62,12 +63,10 @@ fn short_rows_are_refused_and_kept(rt: HostRuntime) -> Result<(), Fail> {
         },
         &mut row,
         &mut spare,
-    ) {
-        Ok(_) => Err(Fail::new("not refused")),
-        Err(fault) => {
-            assert_eq!(rt; u8::from(fault.cause), 16);
-            assert!(rt; row[0].value == 7 && spare[254].value == 7);
-            Ok(())
-        }
-    }
+    ) else {
+        return Err(Fail::new("not refused"));
+    };
+    assert_eq!(rt; u8::from(fault.cause), 16);
+    assert!(rt; row[0].value == 7 && spare[254].value == 7);
+    Ok(())
 }

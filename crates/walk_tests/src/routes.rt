@@ -2,7 +2,7 @@
 use crate::closed::Closed;
 use std::test::Fail;
 use walk::errand::Errand;
-use walk::horizon::Horizon;
+use walk::horizon::{Horizon, MAX_INSTANTS};
 use walk::route::first_route;
 use walk::standing::Standing;
 
@@ -18,7 +18,7 @@ fn a_sled_at_its_goal_costs_nothing(rt: HostRuntime) -> Result<(), Fail> {
     )
     .ok_or("no route")?;
     assert_eq!(rt; found.cost, 0);
-    assert_eq!(rt; found.places, [17; 64]);
+    assert_eq!(rt; found.places, [17; MAX_INSTANTS]);
     Ok(())
 }
 

@@ -4,10 +4,10 @@ ghost use Rattle.fleet.specs.SkirtFleets.{skirt, reaches_past, is_cut, margin_of
 ghost use Rattle.fleet.specs.Skirts.{skirt_told, within_more};
 ghost use Rattle.std.proofs.Common.{rules, arith};
 
-use crate::Fleet;
 use crate::offset::Offset;
 use crate::scan::{REACH, any_beside, any_offset, is_within};
 use crate::skirt::{Margin, Skirt};
+use crate::{Fleet, MAX_SLEDS};
 use fault::cause::{Cause, Fault};
 
 const MAX_MARGIN: u8 = 3;
@@ -20,7 +20,7 @@ impl<F: Fleet> Skirt<F> {
     {
         Skirt {
             inner,
-            margins: [Margin { cells: 0 }; 6],
+            margins: [Margin { cells: 0 }; MAX_SLEDS],
         }
     }
 
@@ -30,7 +30,7 @@ impl<F: Fleet> Skirt<F> {
         ensures meaning { cells ≤ 3 → Decides (is_cut cells (F.Fleet.offsets self.old.inner sled)) (Cut cells (F.Fleet.offsets self.old.inner sled)) }
     {
         if sled >= self.inner.count() || cells > MAX_MARGIN {
-            return Err(Cause::ValueOutsideLimits.at(0));
+            return Err(Cause::ValueOutsideLimits.into());
         }
         let limit = REACH - cells;
         let reaches_past = |offset: Offset| {

@@ -1,14 +1,14 @@
 // What a floor answers.
 ghost use Rattle.std.specs.Prelude.{◌≡◌};
-ghost use Rattle.grid.specs.Floors.{Laid, on_floor, cell_at};
+ghost use Rattle.grid.specs.Floors.{Laid, cells_of, on_floor, cell_at};
 
 use crate::cell::Cell;
 use crate::floor::Floor;
-use crate::place::{BOARD_SIDE, Place};
+use crate::place::{BOARD_PLACES, BOARD_SIDE, Place};
 
 impl Floor {
     // The floor of these sides, if each is from 1 to 16, with the cells row by row at the front of the list.
-    pub fn new(columns: u8, rows: u8, cells: [Cell; 256]) -> Option<Floor>
+    pub fn new(columns: u8, rows: u8, cells: [Cell; BOARD_PLACES]) -> Option<Floor>
         ensures { Laid columns rows cells result }
     {
         match (columns, rows) {
@@ -31,6 +31,13 @@ impl Floor {
         ensures { result ≡ self.now.rows }
     {
         self.rows
+    }
+
+    // All cells, row by row.
+    pub fn cells(&self) -> &[Cell]
+        ensures { result.now ≡ cells_of self.now }
+    {
+        &self.cells[..usize::from(self.columns) * usize::from(self.rows)]
     }
 
     // Whether a place lies on the floor.

@@ -1,7 +1,9 @@
 // Places by column and row, and by number.
-ghost use Rattle.grid.specs.Places.{HasNumber, Placed};
+ghost use Rattle.std.specs.Prelude.{Some};
+ghost use Rattle.grid.specs.Places.{HasNumber, Placed, column_row};
 
 use crate::place::{BOARD_SIDE, Place};
+use std::fmt;
 
 impl Place {
     // The place at a column and a row, if they lie on the board.
@@ -33,5 +35,14 @@ impl From<u8> for Place {
             column: number % BOARD_SIDE,
             row: number / BOARD_SIDE,
         }
+    }
+}
+
+// The column, a comma and the row.
+impl fmt::Display for Place {
+    ghost output = { λ place. Some (column_row place) };
+
+    fn fmt<W: fmt::Write>(&self, f: &mut fmt::Formatter<W>) -> fmt::Result {
+        write!(f, "{},{}", self.column, self.row)
     }
 }

@@ -1,5 +1,5 @@
 // What an instance tells, by numbers of sleds and places.
-ghost use Rattle.std.specs.Prelude.{◌≡◌, ◌||◌, IfSome};
+ghost use Rattle.std.specs.Prelude.{◌≡◌, ◌||◌, None, IfSome, slice_index_or};
 ghost use Rattle.grid.specs.Places.{number_of, position_of, position_at};
 ghost use Rattle.geometry.specs.Shares.{share_cell};
 ghost use Rattle.geometry.specs.Collisions.{collide};
@@ -8,6 +8,7 @@ ghost use Rattle.tables.specs.TabledFleets.{tabled_sleds};
 ghost use Rattle.plans.specs.Instance.{stands_at, meets_at, collides_in};
 ghost use Rattle.instance.specs.Instances.{task_in};
 
+use crate::ends::Ends;
 use crate::instance::Instance;
 use crate::meeting::pair_at;
 use crate::step::{arriving, leaving, move_between};
@@ -41,16 +42,23 @@ impl Instance {
         &self.fleet
     }
 
+    // Where a sled of the job begins and ends.
+    fn ends(&self, sled: usize) -> Option<Ends>
+        ensures { result ≡ slice_index_or self.now.ends sled None }
+    {
+        *self.ends.get(sled)?
+    }
+
     pub(crate) fn start(&self, sled: usize) -> u8
         ensures { result ≡ number_of ((task_in self.now).start sled) }
     {
-        self.ends.get(sled).map_or(0, |ends| ends.start)
+        self.ends(sled).map_or(0, |ends| ends.start)
     }
 
     pub(crate) fn goal(&self, sled: usize) -> u8
         ensures { result ≡ number_of ((task_in self.now).goal sled) }
     {
-        self.ends.get(sled).map_or(0, |ends| ends.goal)
+        self.ends(sled).map_or(0, |ends| ends.goal)
     }
 
     // A sled that the fleet does not have may stand at every place of the floor.
@@ -67,16 +75,14 @@ impl Instance {
     fn differences(&self, pair: Pair) -> Option<&Differences>
         ensures { IfSome result (λ d. ∥ DifferencesOf (tabled_sleds self.now.fleet pair.i) (tabled_sleds self.now.fleet pair.j) d.now ∥₁) }
     {
-        if pair.i < pair.j && pair.j < self.fleet.count() {
-            let row = self.pairs.get(pair.i as usize)?;
-            row.get(pair.j as usize)
-        } else {
-            None
-        }
+        self.pairs
+            .get(pair.i as usize)?
+            .get(pair.j as usize)?
+            .as_ref()
     }
 
     // Whether the two sleds share a cell.
-    pub(crate) fn share_cell(&self, pair: Pair) -> bool
+    fn share_cell(&self, pair: Pair) -> bool
         ensures { result ≡ share_cell (tabled_sleds self.now.fleet pair.i) (position_of pair.u) (tabled_sleds self.now.fleet pair.j) (position_of pair.v) }
     {
         self.differences(pair).map_or_else(

@@ -2,7 +2,7 @@
 ghost use Rattle.std.specs.Prelude.{◌≡◌, MatchResult};
 ghost use Rattle.instance.specs.Instances.{task_in, Admitted, TurnedAway};
 
-use crate::ends::{NOWHERE, ends_of, first_stuck};
+use crate::ends::{ends_of, first_stuck};
 use crate::instance::Instance;
 use crate::pairs::pairs_of;
 use crate::standings::standings_of;
@@ -11,17 +11,6 @@ use fleet::rectangles::Rectangles;
 use fleet::{Fleet, MAX_SLEDS};
 use job::job::Job;
 use tables::tabled::Tabled;
-use walk::horizon::Horizon;
-
-// The horizon of a job.
-fn horizon_of(job: &Job) -> Horizon
-    ensures { result.steps ≡ job.now.horizon }
-{
-    match Horizon::new(job.horizon()) {
-        Some(horizon) => horizon,
-        None => unreachable(),
-    }
-}
 
 impl Instance {
     // No sleds: nothing to plan.
@@ -32,8 +21,8 @@ impl Instance {
         let floor = job.floor();
         let fleet = Tabled::of(&Rectangles::new());
         Instance {
-            horizon: horizon_of(&job),
-            ends: [NOWHERE; MAX_SLEDS],
+            horizon: job.span(),
+            ends: [None; MAX_SLEDS],
             floor,
             fleet,
             standing: standings_of(&fleet, &floor),
@@ -45,19 +34,18 @@ impl Instance {
     pub fn of<F: Fleet>(job: &Job, fleet: &F) -> Result<Instance, Fault>
         ensures { MatchResult result (Admitted job.now (F.Fleet.size fleet.now) (F.Fleet.offsets fleet.now)) (TurnedAway job.now (F.Fleet.size fleet.now) (F.Fleet.offsets fleet.now)) }
     {
-        let count = job.sled_count();
-        if fleet.count() as usize != count {
-            return Err(Cause::FleetNotOfJob.at(0));
+        if fleet.count() as usize != job.sled_count() {
+            return Err(Cause::FleetNotOfJob.into());
         }
         let fleet = Tabled::of(fleet);
         let floor = job.floor();
         let standing = standings_of(&fleet, &floor);
         let ends = ends_of(job);
-        if let Some(sled) = first_stuck(&standing, &ends, count) {
+        if let Some(sled) = first_stuck(&standing, &ends) {
             return Err(Cause::CannotStand.at(sled));
         }
         Ok(Instance {
-            horizon: horizon_of(job),
+            horizon: job.span(),
             ends,
             floor,
             fleet,

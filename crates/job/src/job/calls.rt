@@ -13,6 +13,8 @@ use crate::sleds_part::read_sleds;
 use fault::cause::Fault;
 use grid::cell::Cell;
 use grid::floor::Floor;
+use grid::horizon::Horizon;
+use grid::place::BOARD_PLACES;
 
 // Where the fields of the node limit and of the floor begin, and where the floor's cells do.
 const LIMIT_AT: usize = 4;
@@ -26,14 +28,14 @@ impl Job {
     pub fn new() -> Job
         ensures { facts result ≡ smallest }
     {
-        match Floor::new(1, 1, [Cell::Free; 256]) {
-            Some(floor) => Job {
-                horizon: 1,
-                limit: 1,
-                floor,
-                sleds: smallest_alone(),
-            },
-            None => unreachable(),
+        let Some(floor) = Floor::new(1, 1, [Cell::Free; BOARD_PLACES]) else {
+            unreachable()
+        };
+        Job {
+            horizon: Horizon { steps: 1 },
+            limit: 1,
+            floor,
+            sleds: smallest_alone(),
         }
     }
 
@@ -48,6 +50,13 @@ impl Job {
     // The number of steps.
     pub fn horizon(&self) -> u8
         ensures { result ≡ (facts self.now).horizon }
+    {
+        self.span().steps
+    }
+
+    // The horizon itself.
+    pub fn span(&self) -> Horizon
+        ensures { result.steps ≡ (facts self.now).horizon }
     {
         self.horizon
     }

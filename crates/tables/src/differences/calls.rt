@@ -10,32 +10,21 @@ ghost use Rattle.tables.specs.DifferenceSets.{differences, difference_set, Diffe
 ghost use Rattle.tables.specs.Sweeps.{half};
 
 use crate::differences::Differences;
+use crate::offsets::offsets_of;
 use crate::table::Table;
 use fleet::Fleet;
 use fleet::offset::Offset;
-use fleet::scan::any_offset;
 use geometry::relative::relative;
 use grid::moves::Move;
 use grid::place::Place;
 
-// Whether sled j has an offset of another sled, moved by a difference.
-fn has_moved<F: Fleet>(fleet: &F, j: u8, offset: Offset, difference: Offset) -> bool
-    ensures { result ≡ F.Fleet.offsets fleet.now j (offset.dx +ℤ difference.dx) (offset.dy +ℤ difference.dy) }
+// Whether sled j has one of some offsets, moved by a difference.
+fn has_one_moved<F: Fleet>(fleet: &F, j: u8, offsets: &[Offset], difference: Offset) -> bool
+    ensures { result ≡ list_any (λ o. F.Fleet.offsets fleet.now j (o.dx +ℤ difference.dx) (o.dy +ℤ difference.dy)) offsets.now }
 {
-    let Some(dx) = offset.dx.checked_add(difference.dx) else {
-        return false;
-    };
-    let Some(dy) = offset.dy.checked_add(difference.dy) else {
-        return false;
-    };
-    fleet.has(j, Offset { dx, dy })
-}
-
-// Whether sled j has some offset of sled i, moved by a difference.
-fn are_apart<F: Fleet>(fleet: &F, i: u8, j: u8, difference: Offset) -> bool
-    ensures { result ≡ differences (F.Fleet.offsets fleet.now i) (F.Fleet.offsets fleet.now j) difference.dx difference.dy }
-{
-    any_offset(|offset| fleet.has(i, offset) && has_moved(fleet, j, offset, difference))
+    offsets
+        .iter()
+        .any(|offset| fleet.has_moved(j, *offset, difference))
 }
 
 impl Differences {
@@ -44,8 +33,11 @@ impl Differences {
         ensures table { DifferencesOf (F.Fleet.offsets fleet.now i) (F.Fleet.offsets fleet.now j) result }
         ensures meaning { (x y : ℤ) → Decides (difference_set result x y) (Difference (F.Fleet.offsets fleet.now i) (F.Fleet.offsets fleet.now j) x y) }
     {
+        let offsets = offsets_of(fleet, i);
         Differences {
-            table: Table::of(|difference| are_apart(fleet, i, j, difference)),
+            table: Table::of(|difference| {
+                has_one_moved(fleet, j, offsets.as_slice(), difference)
+            }),
         }
     }
 
@@ -53,10 +45,7 @@ impl Differences {
     pub fn shares_cell(&self, u: Place, v: Place) -> bool
         ensures { (first second : Offsets) → DifferencesOf first second self.now → result ≡ share_cell first (position_of u) second (position_of v) }
     {
-        self.table.has(Offset {
-            dx: less(u.column, v.column),
-            dy: less(u.row, v.row),
-        })
+        self.table.has(gap(u, v))
     }
 
     // Whether sled i, moving by a from u, and sled j, moving by b from v, collide.
@@ -64,8 +53,9 @@ impl Differences {
         ensures { (first second : Offsets) → DifferencesOf first second self.now → result ≡ collide first (position_of u) a second (position_of v) b }
     {
         let step = relative(a, b);
-        let columns = passed(less(u.column, v.column), step.dx);
-        let rows = passed(less(u.row, v.row), step.dy);
+        let start = gap(u, v);
+        let columns = passed(start.dx, step.dx);
+        let rows = passed(start.dy, step.dy);
         rows.iter().any(|y| self.row_has(&columns, *y))
     }
 
@@ -79,13 +69,15 @@ impl Differences {
     }
 }
 
-// A column or row less another.
-fn less(at: u8, other: u8) -> i8
-    requires first { at ≤ 15 }
-    requires second { other ≤ 15 }
-    ensures { result ≡ pos at -ℤ pos other }
+// How far a place lies from another.
+fn gap(place: Place, other: Place) -> Offset
+    ensures across { result.dx ≡ pos place.column -ℤ pos other.column }
+    ensures down { result.dy ≡ pos place.row -ℤ pos other.row }
 {
-    at as i8 - other as i8
+    Offset {
+        dx: place.column as i8 - other.column as i8,
+        dy: place.row as i8 - other.row as i8,
+    }
 }
 
 // Where a step passes from a difference of columns or rows: its start, half way and its end.

@@ -4,7 +4,7 @@ use Rattle.fault.proofs.lines.write_lines.Goals as goal
 
 pub unreachable-requires : goal.unreachable-requires
 unreachable-requires g c =
-    let whole = whole-text c.new-text.ensures.buffer c.new-text.ensures.front c.put.ensures.text c.in-None.ensures in
+    let whole = whole-text c.new-text.ensures.buffer c.new-text.ensures.front c.put.ensures.text c.in_default.ensures in
     omega (arith, whole.0, c.put.ensures.short)
 
 pub returns : goal.returns

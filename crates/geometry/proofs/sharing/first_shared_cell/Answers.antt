@@ -4,12 +4,6 @@ use Rattle.geometry.specs.Shares.{shared}
 use Rattle.geometry.proofs.Meetings.{first_shared_is}
 use Rattle.geometry.proofs.sharing.first_shared_cell.Goals as goal
 
-pub returns-in_err-offset : goal.returns-in_err-offset
-returns-in_err-offset g c =
-    let f = c.args.fleet.now in
-    let p = c.args.pair in
-    rw c.from_residual.ensures (c.in_err-offset.ensures (shared (g.F.Fleet.offsets f p.i) (position_of p.u) (g.F.Fleet.offsets f p.j) (position_of p.v)) (λ o near_x near_y r e. search rules))
-
 pub cell_by-requires : goal.cell_by-requires
 cell_by-requires g c =
     let f = c.args.fleet.now in

@@ -1,8 +1,7 @@
-use Rattle.std.proofs.Common.{◌≡◌, ℕ, ◌<◌, min, get_or, take, sym, refl, ap, ◌∙◌, subst, arith}
-use Rattle.std.proofs.lemmas.List.{get_or-take, length-take-le, drop-set-lt}
+use Rattle.std.proofs.Common.{◌≡◌, ℕ, ◌<◌, min, get_or, take, refl, ap, ◌∙◌, subst, arith}
+use Rattle.std.proofs.lemmas.List.{length-take-le, drop-set-lt}
 use Rattle.tree.specs.Tree as tree
 use Rattle.tree.specs.Calls as calls
-use Rattle.engine.specs.declared.call.Call.{Call}
 use Rattle.engine.specs.declared.call.Call.TheVariants.{Advance}
 use Rattle.engine.specs.Model.{search_of}
 use Rattle.engine.specs.Engine.{IsAt, Answers}
@@ -31,10 +30,9 @@ loop-number-preserved g c =
     let cs = take count c.args.calls.now in
     let call = get_or cs k (Advance 0) in
     let u = inv.2.0 in
-    let within : k < count = c.loop-number-test.true in
     let long = length-take-le count c.args.calls.now (omega (arith, c.min-count.ensures)) in
-    let made : Answers m old new (call_of call) (answer_of r) =
-    subst (λ (x : Call). Answers m old new (call_of x) (answer_of r)) (sym (get_or-take count c.args.calls.now k (Advance 0) within)) c.answer.ensures in (
+    let within : k < count = omega (arith, c.loop-number-test.true) in
+    let made : Answers m old new (call_of call) (answer_of r) = c.answer.ensures in (
       made.same_limit ∙ inv.0,
       drop-set-lt count rs k r within ∙ inv.1,
       (

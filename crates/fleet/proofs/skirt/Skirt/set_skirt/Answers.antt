@@ -5,22 +5,21 @@ use Rattle.fleet.specs.SkirtFleets.{reaches_past}
 use Rattle.fleet.specs.Skirts.{cut_told}
 use Rattle.fleet.proofs.skirt.Skirt.set_skirt.Goals as goal
 
-pub returns-then-sled-count : goal.returns-then-sled-count
-returns-then-sled-count g c =
-    let f = c.args.self.now.inner in
-    let why = c.then-sled-count.either in
-    let n = c.count.ensures in
-    let e = c.at.ensures in
-    record { outcome = (grind (arith, nat_tests, why, n, e), refl); meaning = λ h. cut_told c.args.cells (g.F.Fleet.offsets f c.args.sled) h (g.met.F.Fleet.near f c.args.sled) }
+pub returns-then-sled-count-clause-meaning : goal.returns-then-sled-count-clause-meaning
+returns-then-sled-count-clause-meaning g c = cut_told c.args.cells _ (g.met.F.Fleet.near c.args.self.now.inner c.args.sled)
 
-pub returns-then-any_offset : goal.returns-then-any_offset
-returns-then-any_offset g c =
-    let f = c.args.self.now.inner in
-    let cut = c.if-any_offset.ensures (reaches_past c.args.cells (g.F.Fleet.offsets f c.args.sled)) (λ o near_x near_y r e. search rules) in
-    record { outcome = (grind (arith, nat_tests, cut), refl); meaning = λ h. cut_told c.args.cells (g.F.Fleet.offsets f c.args.sled) h (g.met.F.Fleet.near f c.args.sled) }
+pub returns-then-any_offset-clause-meaning : goal.returns-then-any_offset-clause-meaning
+returns-then-any_offset-clause-meaning g c = cut_told c.args.cells _ (g.met.F.Fleet.near c.args.self.now.inner c.args.sled)
 
-pub returns : goal.returns
-returns g c =
-    let f = c.args.self.now.inner in
-    let uncut = c.if-any_offset.ensures (reaches_past c.args.cells (g.F.Fleet.offsets f c.args.sled)) (λ o near_x near_y r e. search rules) in
-    record { outcome = (grind (arith, nat_tests, uncut), (map-set _ c.args.self.now.margins c.args.sled _, refl)); meaning = λ h. cut_told c.args.cells (g.F.Fleet.offsets f c.args.sled) h (g.met.F.Fleet.near f c.args.sled) }
+pub returns-then-any_offset-clause-outcome : goal.returns-then-any_offset-clause-outcome
+returns-then-any_offset-clause-outcome g c =
+    let cut = c.if-any_offset.ensures (reaches_past c.args.cells (g.F.Fleet.offsets c.args.self.now.inner c.args.sled)) (λ o near_x near_y r e. search rules) in
+    (grind (arith, nat_tests, cut), refl)
+
+pub returns-clause-outcome : goal.returns-clause-outcome
+returns-clause-outcome g c =
+    let uncut = c.if-any_offset.ensures (reaches_past c.args.cells (g.F.Fleet.offsets c.args.self.now.inner c.args.sled)) (λ o near_x near_y r e. search rules) in
+    (grind (arith, nat_tests, uncut), (map-set _ c.args.self.now.margins c.args.sled _, refl))
+
+pub returns-clause-meaning : goal.returns-clause-meaning
+returns-clause-meaning g c = cut_told c.args.cells _ (g.met.F.Fleet.near c.args.self.now.inner c.args.sled)

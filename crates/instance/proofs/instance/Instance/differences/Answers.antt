@@ -1,18 +1,19 @@
-use Rattle.std.proofs.Common.{◌≡◌, List, [], get_or, sym, ap, subst, ◌∙◌, arith}
-use Rattle.std.proofs.lemmas.Option.{IfSome_then}
+use Rattle.std.proofs.Common.{◌≡◌, IfSome, List, [], get_or, Some, None, Option, MatchOption, Bor, sym, ap, ◌∙◌, arith}
+use Rattle.std.specs.Option.{option_copied}
+use Rattle.std.proofs.lemmas.Option.{MatchOption-at_some}
 use mathlib.Core.Logic.{∥∥₁_map}
 use Rattle.tables.specs.declared.differences.Differences.{Differences}
-use Rattle.tables.specs.DifferenceSets.{DifferencesOf}
-use Rattle.tables.specs.TabledFleets.{tabled_sleds}
 use Rattle.instance.proofs.instance.Instance.differences.Goals as goal
 
-pub returns-in_ok-row : goal.returns-in_ok-row
-returns-in_ok-row c =
-    let t = c.args.self.now.fleet in
+lent : (r : Option (Bor Differences)) (o : Option Differences) (N : Type 0) (P : Differences → Type 0) → option_copied r ≡ o → ∥ MatchOption o N P ∥₁ → IfSome r (λ d. ∥ P d.now ∥₁)
+lent None o N P e told = tt
+lent (Some d) o N P e told = ∥∥₁_map told (MatchOption-at_some N P d.now (sym e))
+
+pub returns : goal.returns
+returns c =
     let i = c.args.pair.i in
     let j = c.args.pair.j in
-    let row : c.in_ok-row.row.now ≡ get_or c.args.self.now.pairs i [] = c.in_ok-row.ensures.lookup.3.1 [] in
-    IfSome_then c.get-then-pair-count.result c.get-then-pair-count.ensures.lookup.1
-    (λ d is.
-    ∥∥₁_map c.args.self.now.paired (λ told.
-    subst (λ (x : Differences). DifferencesOf (tabled_sleds t i) (tabled_sleds t j) x) (sym (is ∙ ap (λ (xs : List Differences). get_or xs j d.now) row)) (told i j d.now (omega arith) (omega arith))))
+    let (below, row) = c.in_ok-get.ensures.lookup.3 in
+    let (before, table) = c.in_ok-get-2.ensures.lookup.3 in
+    let at = table None ∙ ap (λ (xs : List (Option Differences)). get_or xs j None) (row []) in
+    lent c.as_ref.result _ _ _ (c.as_ref.ensures.value ∙ at) (∥∥₁_map c.args.self.now.paired (λ told. told i (omega arith) j (omega arith)))

@@ -1,13 +1,11 @@
 use Rattle.std.proofs.Common.{◌≡◌, false, rules}
-use Rattle.grid.specs.Places.{position_at}
-use Rattle.split.specs.Situations.{situation}
-use Rattle.tables.specs.TabledFleets.{tabled_sleds}
+use Rattle.plans.specs.Instance.{in_set}
+use Rattle.instance.specs.Instances.{task_in}
 use Rattle.grid.proofs.Made.{filled}
 use Rattle.instance.proofs.ruled.Ruled.set_of.Goals as goal
 
 pub returns : goal.returns
 returns g c w =
     let p = c.args.self.now in
-    let t = p.instance.now.fleet in
-    filled (λ w b. b ≡ g.R.SplitRule.sets p.rule.now (situation t.count (tabled_sleds t) c.args.pair) c.args.side (position_at w)) 256 (λ w b f few called. search rules) c.from_fn.ensures.items w
-    false
+    filled (λ w held. held ≡ in_set (task_in p.instance.now) (g.R.SplitRule.sets p.rule.now) c.args.side c.args.a.sled c.args.b.sled c.args.a.place c.args.b.place w) 256
+    (λ w held f few called. search rules) c.from_fn.ensures.items w false

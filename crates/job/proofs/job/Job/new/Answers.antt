@@ -3,12 +3,10 @@ use Rattle.job.specs.Shapes.{outgrown, row_outgrown}
 use Rattle.job.specs.Sound.{sound_sleds}
 use Rattle.job.proofs.job.Job.new.Goals as goal
 
-pub invariant_of-result : goal.invariant_of-result
+pub invariant_of-result-2 : goal.invariant_of-result-2
 unfolding outgrown row_outgrown
-invariant_of-result c =
+invariant_of-result-2 c =
     record {
-      lasting = lit≤ tt;
-      ending = lit≤ tt;
       some_nodes = lit≤ tt;
       few_nodes = lit≤ tt;
       some_sled = omega (arith, ap length c.smallest_alone.ensures);

@@ -1,9 +1,6 @@
-use Rattle.std.proofs.Common.{◌+◌, List, [], ◌∷◌, ◌++◌, get_or, take, vec_items, sym, subst, arith}
-use Rattle.std.proofs.lemmas.List.{take_more, take_all}
-use Rattle.engine.specs.declared.call.Call.{Call}
+use Rattle.std.proofs.Common.{get_or, take, vec_items, arith}
+use Rattle.std.proofs.lemmas.List.{take_more}
 use Rattle.engine.specs.declared.call.Call.TheVariants.{Advance}
-use Rattle.search.specs.declared.call.Answer.{Answer}
-use Rattle.search.specs.Workings.{AllAnswers}
 use Rattle.search.proofs.Running.{answers_none, answers_push}
 use Rattle.search.proofs.state.Search.make_calls.Goals as goal
 
@@ -11,7 +8,7 @@ pub loop-call-init : goal.loop-call-init
 loop-call-init g c =
     let s = c.args.self.now in
     let sets = g.R.SplitRule.sets in
-    (c.requires.empty.1, c.requires.room, subst (λ (rs : List Answer). AllAnswers sets s s [] rs) (sym c.requires.empty.0) (answers_none sets s))
+    (c.requires.empty.1, c.requires.room, rw c.requires.empty.0 (answers_none sets s))
 
 pub loop-call-preserved : goal.loop-call-preserved
 loop-call-preserved g c =
@@ -26,14 +23,5 @@ loop-call-preserved g c =
     let more = answers_push sets s c.loop-call.self after (take k calls) (get_or calls k (Advance 0)) rs r inv.2 c.answer-answer.ensures in (
       omega (arith, c.push_reserved.ensures.len, inv.0),
       omega (arith, c.push_reserved.ensures.capacity, inv.1),
-      subst (λ (xs : List Answer). AllAnswers sets s after (take (k + 1) calls) xs) (sym c.push_reserved.ensures.items)
-          (subst (λ (xs : List Call). AllAnswers sets s after xs (rs ++ r ∷ [])) (sym (take_more calls k (Advance 0) c.loop-call-test.true)) more),
+      rw (c.push_reserved.ensures.items, take_more calls k (Advance 0) c.loop-call-test.true) more,
     )
-
-pub push_reserved-requires : goal.push_reserved-requires
-push_reserved-requires g c = omega (arith, c.loop-call.invariant.0, c.loop-call.invariant.1, c.loop-call-test.true)
-
-pub returns : goal.returns
-returns g c =
-    subst (λ (xs : List Call). AllAnswers g.R.SplitRule.sets c.args.self.now c.loop-call.self xs (vec_items c.loop-call.answers))
-    (take_all c.loop-call.call-index c.args.calls.now c.loop-call-test.false) c.loop-call.invariant.2

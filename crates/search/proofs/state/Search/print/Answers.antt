@@ -1,4 +1,4 @@
-use Rattle.std.proofs.Common.{◌≡◌, ℕ, suc, ◌≤◌, [], get_or, take, sym, refl, ap, ◌∙◌, subst, arith}
+use Rattle.std.proofs.Common.{◌≡◌, ℕ, suc, ◌≤◌, Some, [], get_or, take, sym, refl, ap, ◌∙◌, subst, arith, rules}
 use Rattle.std.proofs.lemmas.List.{get_or-take, length-take-le}
 use Rattle.plans.specs.Tasks.{Task}
 use Rattle.plans.specs.Instance.{setting_of}
@@ -18,12 +18,14 @@ use Rattle.search.proofs.state.Search.print.Goals as goal
 pub returns : goal.returns
 returns g c =
     let s = c.args.self.now in
-    let x = c.in-Some.opened in
+    let x = c.in_ok-opened.opened.now in
     let sets = g.R.SplitRule.sets in
     let before = c.args.out.now in
     let after = c.write_report.new.out in
     let r = c.write_report.result in
-    when_open sets s x c.in-Some.is
+    let is_ended : c.outcome.result ≡ Some c.in_ok-outcome.outcome = search rules in
+    let is_open : s.opened ≡ Some x = search rules in
+    when_open sets s x is_open
     (λ K limit n o held.
     let P = planning sets s K in
     let t = tree_after sets s K limit n in
@@ -37,4 +39,4 @@ returns g c =
     (λ k e i l.
     ap (take (suc K.horizon)) (get_or-take c.sleds-sleds.result c.plan-routes.result i [] (omega arith))
     ∙ subst (λ (m : Model). TellsRoute m s.engine i (get_or c.plan-routes.result i [])) same (c.plan-routes.ensures.each i (omega arith)) t k o.tree_is e l)
-    c.write_report.ensures t.verdict refl (turns_bounded P limit n) (c.in-Some-outcome.ensures.opened K limit n o)))
+    c.write_report.ensures t.verdict refl (turns_bounded P limit n) (sym is_ended ∙ c.outcome.ensures.opened K limit n o)))

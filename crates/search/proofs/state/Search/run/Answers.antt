@@ -1,10 +1,6 @@
-use Rattle.std.proofs.Common.{vec_items, ap, ◌∙◌, subst}
-use Rattle.split.specs.Situations.{Sets}
-use Rattle.tree.specs.Law.{granted}
+use Rattle.std.proofs.Common.{ap, ◌∙◌}
 use Rattle.job.specs.Facts.{facts}
 use Rattle.plans.specs.Instance.{search_of}
-use Rattle.search.specs.Words.{AreAnswers}
-use Rattle.search.specs.States.{OpenedAt}
 use Rattle.search.specs.Opening.{asked}
 use Rattle.search.specs.Workings.{events_of}
 use Rattle.search.proofs.Running.{promise_kept}
@@ -22,17 +18,16 @@ returns g c =
     let limit = (facts job).limit in
     let opened = c.in_ok-open.ensures in
     let made = c.make_calls.ensures in
-    let end = c.make_calls.new.self in
     let all = made.at K limit opened.at_root in
     let kept = ap sets opened.same.rule_kept in
     record {
       was_idle = opened.was_idle;
       events = events_of (search_of K (sets rule)) limit calls;
-      told = subst (λ (x : Sets). AreAnswers (events_of (search_of K x) limit calls) (vec_items c.make_calls.result)) kept all.told;
+      told = rw kept at all.told;
       promise = promise_kept job (g.F.Fleet.size fleet) (g.F.Fleet.offsets fleet) (sets rule)
           (record { few = g.met.F.Fleet.few fleet; only = g.met.F.Fleet.only fleet; near = g.met.F.Fleet.near fleet; some = g.met.F.Fleet.some fleet })
           (record { holds_u = g.met.R.SplitRule.lower rule; holds_v = g.met.R.SplitRule.upper rule; all_share = g.met.R.SplitRule.share rule; only_meeting = g.met.R.SplitRule.only rule })
           opened.fits calls;
-      goes = subst (λ (x : Sets). OpenedAt sets end K limit (granted (events_of (search_of K x) limit calls))) kept all.goes;
+      goes = rw kept at all.goes;
       same = record { fleet_kept = made.same.fleet_kept ∙ opened.same.fleet_kept; rule_kept = made.same.rule_kept ∙ opened.same.rule_kept };
     }

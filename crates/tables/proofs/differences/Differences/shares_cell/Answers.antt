@@ -1,5 +1,4 @@
-use Rattle.std.proofs.Common.{pos, ◌-ℤ◌, ap, ◌∙◌, arith, w8, SFits}
-use Rattle.std.proofs.lemmas.Int.{to_z-of_z, ints}
+use Rattle.std.proofs.Common.{pos, ◌-ℤ◌, ap, ◌∙◌}
 use Rattle.grid.specs.Places.{position_of}
 use Rattle.fleet.specs.Offsets.{Offsets}
 use Rattle.tables.proofs.Sweeping.{share_difference}
@@ -9,7 +8,5 @@ pub returns : goal.returns
 returns c first second made =
     let u = position_of c.args.u in
     let v = position_of c.args.v in
-    let x : SFits w8 c.less.result = omega (arith, ints) in
-    let y : SFits w8 c.less-2.result = omega (arith, ints) in
-    let told = rw (to_z-of_z w8 c.less.result x, to_z-of_z w8 c.less-2.result y, c.less.ensures, c.less-2.ensures) at c.has.ensures in
+    let told = rw (c.gap.ensures.across, c.gap.ensures.down) at c.has.ensures in
     told ∙ ap (λ (s : Offsets). s (pos u.column -ℤ pos v.column) (pos u.row -ℤ pos v.row)) made.set ∙ share_difference first second u v

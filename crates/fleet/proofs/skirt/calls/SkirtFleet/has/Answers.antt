@@ -1,14 +1,10 @@
-use Rattle.std.proofs.Common.{◌≡◌, Bool, false, Option, None, Some, MatchOption, sym, ◌∙◌, ap, ⊎_elim, arith, rules}
-use Rattle.std.proofs.lemmas.Bool.{cases_Bool}
+use Rattle.std.proofs.Common.{◌≡◌, ◌∙◌, ap, arith, rules}
+use Rattle.std.proofs.lemmas.Bool.{false_from_ne_true}
 use Rattle.std.proofs.lemmas.Bool.Decides.{Decides-at}
 use Rattle.fleet.specs.SkirtFleets.{skirt, margin_of, no_margin}
 use Rattle.fleet.specs.Skirts.{skirt_told}
+use Rattle.fleet.proofs.Lookups.{answered}
 use Rattle.fleet.proofs.skirt.calls.SkirtFleet.has.Goals as goal
-
--- what is answered of a margin that is there, and false where none is
-answered : {A N : Type 0} {L P : A → Type 0} (o : Option A) (r s : Bool) → MatchOption o N L → MatchOption o (r ≡ false) P → (N → s ≡ false) → ((x : A) → L x → P x → r ≡ s) → r ≡ s
-answered None r s none e absent there = e ∙ sym (absent none)
-answered (Some x) r s at p absent there = there x at p
 
 pub returns : goal.returns
 returns g c =
@@ -19,10 +15,8 @@ returns g c =
     let value : c.is_some_and.result ≡ has =
     answered c.get.result _ has c.get.ensures.lookup.3 c.is_some_and.ensures
     (λ past.
-    ⊎_elim
-    (λ e. let b = (told.0 e).beside in absurd (omega (arith, past, g.met.F.Fleet.only k.inner c.args.sled b.a b.b b.is_below, g.met.F.Fleet.few k.inner)))
-    (λ e. e)
-    (cases_Bool has))
+    false_from_ne_true has
+    (λ e. let b = (told.0 e).beside in omega (arith, past, g.met.F.Fleet.only k.inner c.args.sled b.a b.b b.is_below, g.met.F.Fleet.few k.inner)))
     (λ m at p.
     let here : c.is_some_and.result ≡ skirt m.now.cells below c.args.offset.dx c.args.offset.dy = search rules in
     here ∙ ap (λ n. skirt n.cells below c.args.offset.dx c.args.offset.dy) (at.1 no_margin)) in

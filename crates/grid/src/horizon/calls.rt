@@ -1,5 +1,5 @@
 // Horizons by their number of steps.
-ghost use Rattle.walk.specs.Promises.{HorizonOf};
+ghost use Rattle.grid.specs.Horizons.{HorizonOf};
 
 use crate::horizon::Horizon;
 

@@ -1,0 +1,3 @@
+// How many sleds there may be.
+
+pub const MAX_SLEDS: usize = 6;
