@@ -66,14 +66,14 @@ impl Deck {
         requires { fits slip.numbers self.old ≡ true }
         ensures { Answers R.SplitRule.sets search.now self.old self.new Call.Release (Some slip) result.answer result.hand }
     {
-        match self.release(search) {
-            Ok(_) => unreachable(),
-            Err(fault) => Step::from(Returned { fault, slip }),
-        }
+        let Err(fault) = self.release(search) else {
+            unreachable()
+        };
+        Step::from(Returned { fault, slip })
     }
 }
 
-// What comes of a release.
+// What comes of a release. Apart from a move, which hands the slip back where it is refused.
 fn released(given: Result<Slip, Fault>) -> Step
     ensures { MatchResult given (λ slip. (result.answer ≡ Some (Ok (Released slip.numbers))) × (result.hand ≡ Some slip)) (λ fault. (result.answer ≡ Some (Err fault)) × (result.hand ≡ None)) }
 {

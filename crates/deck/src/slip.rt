@@ -4,7 +4,7 @@ ghost use Rattle.deck.specs.Slips.{GoesOnward, HandedBack, IsSpent};
 
 use fault::cause::{Cause, Fault};
 
-// Runs are numbered from 1, so that no deck is out on this one.
+// The run of a slip that is spent: a slip is plain numbers, and runs are numbered from 1, so that no deck is out on this one.
 const NO_RUN: u16 = 0;
 
 // What a slip says, to be kept and compared: the deck's name, the number of the run, the instant that it is at, and its last.

@@ -2,20 +2,21 @@
 use Rattle.std.proofs.Common.{◌≡◌, ℕ, zero, suc, ◌<◌, ◌≤◌, Bool, true, false, cond, List, [], ◌∷◌, length, get_or, slice_get, filter, is_some, Some, None, Option, Bor, sym, refl, ap, ap₂, ◌∙◌, subst, ⊎_elim, arith}
 use Rattle.std.proofs.lemmas.Bool.{false≢true, both_ways, cases_Bool, cases_eq, cases_order}
 use Rattle.std.proofs.lemmas.Option.{slice_get_past}
-use Rattle.std.proofs.lemmas.Iterator.Adapters.{option_map_id}
 use Rattle.std.proofs.lemmas.Map.Keys.{ge_from_not_lt}
 use Rattle.std.specs.Option.{MatchOption, IfSome, IsSomeAnd, option_map}
 use Rattle.std.specs.Ordering.{nat_cmp, ordering_then, is_lt}
 use Rattle.std.specs.Cmp.{nat_cmp_is}
 use Rattle.std.specs.declared.cmp.Ordering.{Ordering}
 use Rattle.std.specs.declared.cmp.Ordering.TheVariants.{Less, Equal, Greater}
-use Rattle.std.specs.declared.ops.Range.{Range}
 use Rattle.std.specs.Fn.{Called, CalledAt}
 use Rattle.std.specs.Iterator.{ActsAsAt}
 use Rattle.std.specs.Iterator.Runs.{Run, SomeRun, WholeRun, EachRunFrom, AllItems, AnyItem, CallKeepsClosure, IsFilterRun, NoKeyBeyond}
-use Rattle.std.proofs.iter.Yields.{nat_range_steps}
 use Rattle.std.proofs.iter.runs.Made.{at-is}
-use Rattle.std.proofs.iter.runs.Sources.{range_runs}
+use Rattle.std.proofs.iter.runs.Sources.{iter_runs}
+use Rattle.std.specs.Slice.Iter.{iter_rest, iter_steps}
+use Rattle.std.specs.Iterator.Runs.{ProjectsRun}
+use Rattle.std.specs.declared.slice.Iter.{Iter}
+use Rattle.engine.specs.Table.{empty}
 use denote.Param.Members.{Mut}
 use Rattle.tree.specs.Lists.{Nth}
 use Rattle.tree.specs.Setting.{Setting}
@@ -60,68 +61,87 @@ not_before a b i j e = (
   λ same. ge_from_not_lt i j (subst (λ o. is_lt (ordering_then o (nat_cmp i j)) ≡ false) (sym (nat_cmp_is a b Equal same)) e),
 )
 
--- the least key of those records of the first n that are open
-module _ (table : List Node) (n : ℕ) {S F G : Type 0} {outer : S → Option ℕ → S → Type 0} {g : Mut F (Bor ℕ × Unit {0}) Bool} {f : F} {h : Mut G (Bor ℕ × Unit {0}) (ℕ × ℕ)} {key : G}
-    (asks : CallKeepsClosure g f) (opens : (a : Bor ℕ × Unit {0}) (r : Bool) (q : F) → Called g f a r q → r ≡ open_at table a.0.now)
-    (tells : CallKeepsClosure h key) (keys : (a : Bor ℕ × Unit {0}) (r : ℕ × ℕ) (q : G) → Called h key a r q → r ≡ (sum_at table a.0.now, a.0.now))
-    (range : Range ℕ) (all : range ≡ record { start = 0; end = n }) (s : S) (filtered : EachRunFrom outer s (λ p. SomeRun nat_range_steps range (λ q. IsFilterRun p q g f))) where
-  acts : ActsAsAt g f (open_at table)
-  acts x r q c = (asks (c.shown, tt) r q c.called, opens (c.shown, tt) r q c.called ∙ ap (open_at table) c.shows)
+abbrev same_key : (x : ℕ × Bor Node) → ℕ × ℕ
+same_key x = (x.1.now.sum, x.0)
 
-  key_of : (x : ℕ) (r : ℕ × ℕ) → CalledAt h key x r key → r ≡ (sum_at table x, x)
-  key_of x r c = keys (c.shown, tt) r key c.called ∙ ap {B = ℕ × ℕ} (λ (y : ℕ). (sum_at table y, y)) c.shows
+abbrev test : ℕ × Bor Node → Bool
+test x = x.1.now.is_open
+
+same_of : (o : Option (ℕ × Bor Node)) (y x : ℕ × Bor Node) → IsSomeAnd o (λ z. z ≡ y) → o ≡ Some x → x ≡ y
+same_of None y x h e = absurd h
+same_of (Some z) y x h e = let zx : z ≡ x = cc in sym zx ∙ h
+
+numbered_at : (k : ℕ) (v : Node) (o : Option (ℕ × Bor Node)) → IfSome o (λ x. x.0 ≡ k) → option_map (λ (y : Bor Node). y.now) (option_map (λ (x : ℕ × Bor Node). x.1) o) ≡ Some v → (x : ℕ × Bor Node) × (o ≡ Some x) × (x.0 ≡ k) × (x.1.now ≡ v)
+numbered_at k v None h e = absurd (false≢true (ap is_some e))
+numbered_at k v (Some x) h e = (x, refl, h, cc)
+
+-- the least key of those records that are open
+module _ (table : List Node) {S F : Type 0} {outer : S → Option (ℕ × Bor Node) → S → Type 0} {g : Mut F (Bor (ℕ × Bor Node) × Unit {0}) Bool} {f : F}
+    (asks : CallKeepsClosure g f) (opens : (a : Bor (ℕ × Bor Node) × Unit {0}) (r : Bool) (q : F) → Called g f a r q → r ≡ a.0.now.1.now.is_open)
+    (it : Iter Node) (all : iter_rest it ≡ table) {E : Type 0} {middle : E → Option (ℕ × Bor Node) → E → Type 0} (e : E)
+    (numbered : EachRunFrom middle e (λ q. ((k : ℕ) → IfSome (q.at k) (λ x. x.0 ≡ k)) × SomeRun (iter_steps {A = Node}) it (λ u. ProjectsRun q u (λ x. x.1) × (u.whole ≡ q.whole))))
+    (s : S) (filtered : EachRunFrom outer s (λ p. SomeRun middle e (λ q. IsFilterRun p q g f))) where
+  acts : ActsAsAt g f test
+  acts x r q c = (asks (c.shown, tt) r q c.called, opens (c.shown, tt) r q c.called ∙ ap test c.shows)
 
   module _ (p : Run outer) (from : p.from ≡ s) (whole : p.whole ≡ true) where
-    abbrev source : SomeRun nat_range_steps range (λ q. IsFilterRun p q g f)
+    abbrev source : SomeRun middle e (λ q. IsFilterRun p q g f)
     source = filtered p p.seen from
 
-    abbrev q : Run nat_range_steps
-    q = source.0
+    pub pair_at : (k : ℕ) → k < length table → (x : ℕ × Bor Node) × (source.0.at k ≡ Some x) × (x.0 ≡ k) × (x.1.now ≡ get_or table k empty)
+    pair_at k l =
+        let n = numbered source.0 source.0.seen source.1 in
+        let u = n.1.0 in
+        let up = iter_runs u u.seen in
+        let same : iter_rest u.from ≡ table = ap iter_rest n.1.1 ∙ all in
+        let long = up.1 (n.1.2.1 ∙ source.2.0 ∙ whole) in
+        numbered_at k (get_or table k empty) (source.0.at k) (n.0 k)
+        (ap (option_map (λ (y : Bor Node). y.now)) (sym (n.1.2.0.2 k)) ∙ up.2 k empty (omega (arith, long, ap length same)) ∙ ap (λ (ns : List Node). Some (get_or ns k empty)) same)
 
-    start_is : q.from.start ≡ 0
-    start_is = ap (λ (r : Range ℕ). r.start) (source.1 ∙ all)
-
-    end_is : q.from.end ≡ n
-    end_is = ap (λ (r : Range ℕ). r.end) (source.1 ∙ all)
-
-    number_at : (k : ℕ) → k < n → slice_get q.items k ≡ Some k
-    number_at k l =
-        let up = range_runs q q.seen in
-        let long = up.1 (source.2.0 ∙ whole) in
-        let start = start_is in
-        let end = end_is in
-        sym (at-is q k) ∙ sym (option_map_id (q.at k)) ∙ up.3 k (omega arith) ∙ ap {B = Option ℕ} Some (omega arith)
-
-    of_open : (Q : ℕ → Type 0) → AllItems p Q → (k : ℕ) → k < n → open_at table k ≡ true → Q k
+    pub of_open : (Q : ℕ × Bor Node → Type 0) → AllItems p Q → (k : ℕ) → k < length table → open_at table k ≡ true → (x : ℕ × Bor Node) × Q x × (x.0 ≡ k) × (x.1.now ≡ get_or table k empty)
     of_open Q items k l stands =
-        kept (open_at table) Q q.items (λ i. subst (λ (o : Option ℕ). IfSome o Q) (at-is p i ∙ ap (λ (xs : List ℕ). slice_get xs i) (source.2.4 (open_at table) acts)) (items i)) k k (number_at k l) stands
+        let x = pair_at k l in
+        (x.0, kept test Q source.0.items (λ i. subst (λ (o : Option (ℕ × Bor Node)). IfSome o Q) (at-is p i ∙ ap (λ (xs : List (ℕ × Bor Node)). slice_get xs i) (source.2.4 test acts)) (items i)) k x.0 (sym (at-is source.0 k) ∙ x.1) (ap (λ (y : Node). y.is_open) x.3 ∙ stands), x.2, x.3)
 
-    open_item : (m : ℕ) → AnyItem p (λ x. x ≡ m) → (m < n) × (open_at table m ≡ true)
+    pub open_item : (m : ℕ × Bor Node) → AnyItem p (λ x. x ≡ m) → (m.0 < length table) × (m.1.now ≡ get_or table m.0 empty) × (m.1.now.is_open ≡ true)
     open_item m (i, l, any) =
-        let end = end_is in
         let in_range = both (p.at i) any (source.2.2 i) in
-        let number = both (q.at in_range.2.0) in_range.2.2 ((range_runs q q.seen).2 in_range.2.0) in
-        let passed = both (p.at i) any (source.2.3 asks i) in
-        let same : number.0 ≡ m = number.1 ∙ in_range.1 in
-        (omega (arith, number.2.1), sym (ap (open_at table) passed.1) ∙ sym (acts passed.0 true f passed.2).1)
+        let j = in_range.2.0 in
+        let n = numbered source.0 source.0.seen source.1 in
+        let up = iter_runs n.1.0 n.1.0.seen in
+        let same : iter_rest n.1.0.from ≡ table = ap iter_rest n.1.1 ∙ all in
+        let short : j < length table = omega (arith, in_range.2.1, n.1.2.0.0, up.0, ap length same) in
+        let x = pair_at j short in
+        let is : x.0 ≡ m = same_of (source.0.at j) in_range.0 x.0 in_range.2.2 x.1 ∙ in_range.1 in
+        let passed = both (p.at i) any (source.2.3 asks i) in (
+          subst (λ (z : ℕ × Bor Node). z.0 < length table) is (omega (arith, x.2, short)),
+          subst (λ (z : ℕ × Bor Node). z.1.now ≡ get_or table z.0 empty) is (x.3 ∙ ap (λ (k : ℕ). get_or table k empty) (sym x.2)),
+          sym (ap test passed.1) ∙ sym (acts passed.0 true f passed.2).1,
+        )
 
-  pub least_of_open : (r : Option ℕ) → WholeRun outer s (λ p. MatchOption r (p.len ≡ 0) (λ m. AnyItem p (λ x. x ≡ m) × NoKeyBeyond p h key is_lt key_cmp m)) → CheapestSoFar table n r
-  least_of_open None (p, from, whole, none) = λ k l. ⊎_elim (λ (stands : open_at table k ≡ true).
-      absurd (of_open p from whole (λ _. ⊥) (λ i. subst (λ (o : Option ℕ). IfSome o (λ _. ⊥)) (sym (at-is p i ∙ slice_get_past p.items i (omega (arith, p.long, none)))) tt) k l stands)) (λ closed. closed) (cases_Bool (open_at table k))
-  least_of_open (Some m) (p, from, whole, (any, beyond)) =
-      let item = open_item p from whole m any in
-      let best = beyond tells in
-      let later : (k : ℕ) → k < n → open_at table k ≡ true → (sum_at table m ≤ sum_at table k) × (sum_at table k ≡ sum_at table m → m ≤ k) = λ k l stands.
-      let other = of_open p from whole (λ x. (j : ℕ × ℕ) × CalledAt h key x j key × (is_lt (key_cmp j best.0) ≡ false)) best.2 k l stands in
-      not_before (sum_at table k) (sum_at table m) k m (ap₂ (λ (x y : ℕ × ℕ). is_lt (key_cmp x y)) (sym (key_of k other.0 other.1)) (sym (key_of m best.0 best.1)) ∙ other.2) in
-      record {
-        below = item.0;
-        stands_open = item.1;
-        least = λ k l stands. (later k l stands).0;
-        lowest = λ k l stands.
-            let after = later k (omega (arith, item.0)) stands in
-            ⊎_elim (λ (same : sum_at table k ≡ sum_at table m). absurd (omega (arith, after.1 same))) (λ different. omega (arith, after.0, different)) (cases_eq (sum_at table k) (sum_at table m));
-      }
+  module _ {G : Type 0} {h : Mut G (Bor (ℕ × Bor Node) × Unit {0}) (ℕ × ℕ)} {key : G} (tells : CallKeepsClosure h key) (keys : (a : Bor (ℕ × Bor Node) × Unit {0}) (r : ℕ × ℕ) (q : G) → Called h key a r q → r ≡ same_key a.0.now) where
+    key_of : (x : ℕ × Bor Node) (r : ℕ × ℕ) → CalledAt h key x r key → r ≡ same_key x
+    key_of x r c = keys (c.shown, tt) r key c.called ∙ ap same_key c.shows
+
+    pub least_of_open : (r : Option (ℕ × Bor Node)) → WholeRun outer s (λ p. MatchOption r (p.len ≡ 0) (λ m. AnyItem p (λ x. x ≡ m) × NoKeyBeyond p h key is_lt key_cmp m)) → CheapestSoFar table (length table) (option_map (λ (x : ℕ × Bor Node). x.0) r)
+    least_of_open None (p, from, whole, none) = λ k l. ⊎_elim (λ (stands : open_at table k ≡ true).
+        absurd (of_open p from whole (λ _. ⊥) (λ i. subst (λ (o : Option (ℕ × Bor Node)). IfSome o (λ _. ⊥)) (sym (at-is p i ∙ slice_get_past p.items i (omega (arith, p.long, none)))) tt) k l stands).1) (λ closed. closed) (cases_Bool (open_at table k))
+    least_of_open (Some m) (p, from, whole, (any, beyond)) =
+        let item = open_item p from whole m any in
+        let best = beyond tells in
+        let own : best.0 ≡ (sum_at table m.0, m.0) = key_of m best.0 best.1 ∙ ap {B = ℕ × ℕ} (λ (y : Node). (y.sum, m.0)) item.1 in
+        let later : (k : ℕ) → k < length table → open_at table k ≡ true → (sum_at table m.0 ≤ sum_at table k) × (sum_at table k ≡ sum_at table m.0 → m.0 ≤ k) = λ k l stands.
+        let other = of_open p from whole (λ x. (j : ℕ × ℕ) × CalledAt h key x j key × (is_lt (key_cmp j best.0) ≡ false)) best.2 k l stands in
+        let theirs : other.1.0 ≡ (sum_at table k, k) = key_of other.0 other.1.0 other.1.1 ∙ ap {B = ℕ × ℕ} (λ (y : Node). (y.sum, other.0.0)) other.3 ∙ ap {B = ℕ × ℕ} (λ (n : ℕ). (sum_at table k, n)) other.2 in
+        not_before (sum_at table k) (sum_at table m.0) k m.0 (ap₂ (λ (x y : ℕ × ℕ). is_lt (key_cmp x y)) (sym theirs) (sym own) ∙ other.1.2) in
+        record {
+          below = item.0;
+          stands_open = sym (ap (λ (y : Node). y.is_open) item.1) ∙ item.2;
+          least = λ k l stands. (later k l stands).0;
+          lowest = λ k l stands.
+              let after = later k (omega (arith, item.0)) stands in
+              ⊎_elim (λ (same : sum_at table k ≡ sum_at table m.0). absurd (omega (arith, after.1 same))) (λ different. omega (arith, after.0, different)) (cases_eq (sum_at table k) (sum_at table m.0));
+        }
 
 pub nth_getD : {A : Type 0} (d : A) (xs : List A) (k : ℕ) → k < length xs → Nth xs k (get_or xs k d)
 nth_getD d [] k h = absurd (omega arith)

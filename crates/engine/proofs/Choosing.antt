@@ -3,6 +3,7 @@ use Rattle.std.proofs.Common.{◌≡◌, ℕ, zero, suc, ◌+◌, ◌-◌, ◌<�
 use Rattle.std.specs.List.{AllByRecursion}
 use Rattle.std.proofs.lemmas.Bool.{and_parts, and_from, and_right, lt-ltb, cases_Bool, cases_lt, not-true, not_from_false, or_parts, or_from, both_ways}
 use Rattle.std.proofs.lemmas.List.{take_at}
+use Rattle.std.proofs.Math.Bool.{or-false}
 use Rattle.grid.specs.Board.{Step}
 use Rattle.walk.specs.Sequences.{end}
 use Rattle.walk.specs.Routes as walk
@@ -81,10 +82,6 @@ before_same (x ∷ s) [] h = h
 before_same (x ∷ s) (y ∷ t) (inl l) = inl l
 before_same (x ∷ s) (y ∷ t) (inr (e, h)) = inr (e, before_same s t h)
 
-or_false : (b : Bool) → (b || false) ≡ b
-or_false true = refl
-or_false false = refl
-
 module _ (m : Model) (ok : Keeps m) (b : Forbidden) (bs : List constraints.Constraint) (col : Collected b [] bs) (in_time : AllByRecursion (InTime m.setting) bs) (s : ℕ) where
   abbrev S : Setting
   S = m.setting
@@ -93,10 +90,10 @@ module _ (m : Model) (ok : Keeps m) (b : Forbidden) (bs : List constraints.Const
   a = permitted m b s
 
   places_are : (t p : ℕ) → t < 64 → p < 256 → marked b.places t p ≡ forbids_place bs t p
-  places_are t p h l = sym (or_false (marked b.places t p)) ∙ col.places t p h l
+  places_are t p h l = sym (or-false (marked b.places t p)) ∙ col.places t p h l
 
   moves_are : (t p q : ℕ) → moves_of b t p q ≡ forbids_move bs t p q
-  moves_are t p q = sym (or_false (moves_of b t p q)) ∙ col.moves t p q
+  moves_are t p q = sym (or-false (moves_of b t p q)) ∙ col.moves t p q
 
   -- a move that is not marked is not in the list
   unmarked : (t p q : ℕ) → t < 64 → p < 256 → (marked b.leaving t p && moves_of b t p q) ≡ false → moves_of b t p q ≡ false

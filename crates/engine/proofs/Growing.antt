@@ -10,6 +10,7 @@ use Rattle.tree.specs.Choice.{first_choice}
 use Rattle.tree.specs.Search as search
 use Rattle.tree.specs.Tree as tree
 use Rattle.tree.proofs.Nodes.{replans_one}
+use Rattle.engine.specs.WellFormed.{MadeWellFormed}
 use Rattle.engine.specs.declared.node.SledConstraint.{SledConstraint}
 use Rattle.engine.specs.declared.node.Node.{Node}
 use Rattle.engine.specs.Model.{Model, search_of}
@@ -95,3 +96,7 @@ module _ (m : Model) where
 
     pub child_some : (r : List ℕ) → Some (take (suc S.horizon) r) ≡ first_choice S b.sled (constraints.constraints_on b.sled (sled_constraint_of b ∷ tr)) → Some (plan_of S (set rs b.sled r)) ≡ tree.routes_under P (sled_constraint_of b ∷ tr)
     child_some r e = ap {B = Option Plan} Some (plan_set S rs b.sled r h) ∙ ap (option_map (set (plan_of S rs) b.sled)) e ∙ sym replanned
+
+-- a record that was not made is well formed
+pub none_made : (k : ℕ) (o : Option Node) → o ≡ None → MadeWellFormed k o
+none_made k o e = subst (MadeWellFormed k) (sym e) tt

@@ -27,7 +27,7 @@ pub enum Call {
     Place { sled: usize, instant: usize },
 }
 
-// What each of these calls answers.
+// What each of these calls answers. A whole search answers each in another kind: one enum for both would have four parameters.
 #[derive(Clone, Copy, PartialEq, Debug)]
 pub enum Answer {
     Advanced(Result<u32, Refusal>),

@@ -1,4 +1,6 @@
 // The first conflict of a node's routes.
+// The problem and the routes are two arguments: the one is the search's and the other a node's, so a struct of both would be made for each
+// call, and make each clause longer.
 ghost use Rattle.std.specs.Prelude.{◌≡◌, ◌+◌, ◌<◌};
 ghost use Rattle.std.specs.Option.{option_map};
 ghost use Rattle.tree.specs.Plans.{meet_at, collide_in};
@@ -19,8 +21,7 @@ pub(crate) enum Conflict {
     Collision(Pair),
 }
 
-// The first two sleds that meet at an instant up to the horizon. The problem and the routes stay two arguments: of a struct of both each
-// clause would be longer.
+// The first two sleds that meet at an instant up to the horizon.
 fn first_meeting<P: Problem>(problem: &P, routes: &[Route; MAX_SLEDS]) -> Option<Pair>
     ensures { result ≡ scanned (P.Problem.model problem.now).setting.sleds (meet_at (P.Problem.model problem.now).setting (plan_of (P.Problem.model problem.now).setting routes.now)) ((P.Problem.model problem.now).setting.horizon + 1) }
 {

@@ -1,4 +1,6 @@
 // What routes cost.
+// The problem and the routes are two arguments: the one is the search's and the other a node's, so a struct of both would be made for each
+// call, and make each clause longer.
 ghost use Rattle.std.specs.Prelude.{◌≡◌, ℕ, ◌+◌, ◌<◌, ◌≤◌, ◌≢◌, [], length, slice_index, slice_index_or, MatchOption};
 ghost use Rattle.tree.specs.Routes.{settled, cost};
 ghost use Rattle.tree.specs.Plans.{route, sum, makespan};
@@ -30,7 +32,7 @@ fn route_cost(route: &Route, goal: u8, horizon: Horizon) -> u8
     )
 }
 
-// What the route of a sled costs. The problem and the routes stay two arguments: of a struct of both each clause would be longer.
+// What the route of a sled costs.
 fn sled_cost<P: Problem>(problem: &P, routes: &[Route; MAX_SLEDS], sled: usize) -> u8
     requires { sled < (P.Problem.model problem.now).setting.sleds }
     ensures cost { result ≡ cost (P.Problem.model problem.now).setting sled (route (plan_of (P.Problem.model problem.now).setting routes.now) sled) }

@@ -4,8 +4,8 @@ use few::Few;
 use walk::horizon::MAX_INSTANTS;
 use walk::weight::Step;
 
-// The places forbidden at each instant; the places from which some move is forbidden; and these moves. The second table stands beside
-// the list to save time: from most places no move is forbidden, and there the list is not looked through.
+// The places forbidden at each instant; the places that some forbidden move leaves; and these moves. The second table is no second list
+// of moves: it answers at once for the places that no forbidden move leaves, which are most of them.
 #[derive(Clone, Copy)]
 pub(crate) struct Forbidden {
     pub(crate) places: [PlaceSet; MAX_INSTANTS],

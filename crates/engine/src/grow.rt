@@ -16,7 +16,8 @@ use super::table::NodeTable;
 use super::trail::collect;
 use walk::horizon::MAX_INSTANTS;
 
-// The first routes of least cost of all sleds, or nothing where one has none.
+// The first routes of least cost of all sleds, or nothing where one has none. Of the six rows only those of the problem's sleds count: a
+// node keeps its routes in memory of one size, so that the table of nodes takes all its memory once.
 fn plan_all<P: Problem>(problem: &P) -> Option<[Route; MAX_SLEDS]>
     ensures { option_map (plan_of (P.Problem.model problem.now).setting) result ≡ tree.routes_under (search_of (P.Problem.model problem.now)) [] }
 {

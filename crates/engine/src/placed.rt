@@ -1,5 +1,5 @@
-// Where sleds are, and how they go, in the routes of a node. Of a sled and an instant past these there is no place, so both are asked to
-// be within.
+// Where sleds are, and how they go, in the routes of a node. Past these there is no place, so a sled and an instant are asked to be within.
+// They stay plain numbers: callers have them from a pair that is within, and a type of such numbers would be made again at each call.
 ghost use Rattle.std.specs.Prelude.{◌≡◌, ◌+◌, ◌<◌};
 ghost use Rattle.engine.specs.Table.{at_of};
 

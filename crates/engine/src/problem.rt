@@ -22,7 +22,8 @@ pub struct Going {
     pub to: u8,
 }
 
-// Sleds, places and instants are told by their numbers. Whatever the numbers, there is an answer.
+// Sleds, places and instants are told by their numbers. Whatever the numbers, there is an answer. Two sleds are asked about as two: who
+// asks has them apart, and each is looked at by itself.
 pub trait Problem {
     ghost model: { Self → Model };
 

@@ -1,4 +1,6 @@
 // The two constraints that a conflict calls for.
+// The problem and the routes are two arguments: the one is the search's and the other a node's, so a struct of both would be made for each
+// call, and make each clause longer.
 ghost use Rattle.std.specs.Prelude.{◌≡◌, ◌+◌, ◌<◌, slice_index};
 ghost use Rattle.tree.specs.Conflicts as conflicts;
 ghost use Rattle.tree.specs.Tree as tree;

@@ -81,9 +81,15 @@ impl NodeTable {
     pub(crate) fn cheapest(&self) -> Option<u16>
         ensures { CheapestSoFar self.now.nodes.items (vec_len self.now.nodes) result }
     {
-        let nodes = self.records();
-        (0..nodes.len() as u16)
-            .filter(|number| nodes[*number as usize].is_open)
-            .min_by_key(|number| (nodes[*number as usize].sum, *number))
+        self.nodes
+            .iter()
+            .enumerate()
+            .filter(|(_, node)| node.is_open)
+            .min_by_key(|(number, node)| (node.sum, *number))
+            .map(
+                |(number, _)|
+                    requires { number < MAX_NODES }
+                { number as u16 },
+            )
     }
 }

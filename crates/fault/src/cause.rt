@@ -35,7 +35,7 @@ pub enum Cause {
     WrongInstant = 18,
 }
 
-// A cause with its place: a byte of the job file, a sled, or 0.
+// A cause with its place: a byte of the job file, a sled, or 0. No option, as the line of a refusal shows 0 where there is no place.
 #[derive(Clone, Copy, PartialEq, Debug)]
 pub struct Fault {
     pub cause: Cause,

@@ -1,4 +1,4 @@
-// The line that tells a refusal.
+// The line that tells a refusal: by hand, into the caller's memory.
 ghost use Rattle.fault.specs.Lines.{Writes, refusal_line};
 
 use crate::cause::Fault;

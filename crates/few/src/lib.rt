@@ -1,5 +1,5 @@
 // A list of at most N items in fixed memory: the first `count` entries are its items, and the others are filler.
-// The kit's `ArrayVec` is such a list too, but it is not `Copy`, so a struct that holds one can't be.
+// The kit's `ArrayVec` is such a list too, but it is not `Copy`, so that a struct that holds one, as a job or a fleet, can't be.
 #![tactic(auto)]
 
 ghost use Rattle.std.specs.Prelude.{◌≡◌, ◌<◌, ◌≤◌, ◌↔◌, [], ◌∷◌, ◌++◌, length, IsOk, OnOk, OnErr, ⊤};
@@ -10,6 +10,7 @@ pub struct Few<T, const N: usize> {
     items: [T; N],
     count: usize,
     ghost few: { count ≤ N },
+    // said again, as lemmas see the list alone and not its type
     ghost whole: { length items ≡ N },
 }
 

@@ -57,7 +57,8 @@ impl Shape for Outline {
 impl Shapes<Outline> {
     ghost use Rattle.fleet.specs.OutlineFleets.{Drawn};
 
-    // One sled more, with some cell drawn; at most six.
+    // One sled more, with some cell drawn; at most six. One `add` for every kind would take a shape, and leave to its callers what is
+    // refused here.
     pub fn add(&mut self, rows: [u8; 8]) -> Result<(), Fault>
         ensures { Drawn rows self.old self.new result }
     {
@@ -73,7 +74,8 @@ fn is_set(row: u8, bit: u32) -> bool
     (row >> (7 - bit)) % 2 == 1
 }
 
-// A job asks the same of a drawing: neither crate knows the other, and the line is shorter than a third for both.
+// A job asks the same of a drawing: neither crate knows the other, and for one line a function in a crate below both would be longer than
+// what it saves.
 fn is_blank(rows: &[u8; 8]) -> bool
     ensures { result ≡ list_all (λ row. row == 0) rows.now }
 {

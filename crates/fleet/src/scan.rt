@@ -16,8 +16,8 @@ pub fn any_offset<T: Fn(Offset) -> bool>(test: T) -> bool
     any_beside(test, REACH, Offset { dx: 0, dy: 0 })
 }
 
-// Whether some offset within m, across and down, of this one passes. Here and in the two functions below m is a margin or the reach, and
-// so at most 7.
+// Whether some offset within m, across and down, of this one passes. Here and in the two functions below m is a margin, at most 3, or the
+// reach, 7; a type for both would be taken apart in the range at once.
 pub(crate) fn any_beside<T: Fn(Offset) -> bool>(test: T, m: u8, offset: Offset) -> bool
     requires callable { T.IsAlwaysCallable test }
     requires narrow { m ≤ 7 }

@@ -22,7 +22,8 @@ fn is_blocked<F: Fleet>(fleet: &F, sled: u8, floor: &Floor, place: Place, offset
     floor.cell(cell.column, cell.row) != Cell::Free
 }
 
-// Whether a sled may stand at a place: on the floor, with a free cell by each of its offsets.
+// Whether a sled may stand at a place: on the floor, with a free cell by each of its offsets. The fleet and the sled's number go apart, as
+// callers hold the one and count the other.
 // A sled that the fleet does not have covers no cell, and may stand at every place of the floor.
 pub fn may_stand<F: Fleet>(fleet: &F, sled: u8, floor: &Floor, place: Place) -> bool
     ensures value { result ≡ may_stand (F.Fleet.offsets fleet.now sled) floor.now (position_of place) }

@@ -16,5 +16,6 @@ pub struct Floor {
     ghost narrow: { columns ≤ 16 },
     ghost tall: { 1 ≤ rows },
     ghost short: { rows ≤ 16 },
+    // said again, as lemmas see the cells alone and not their type
     ghost whole: { length cells ≡ 256 },
 }

@@ -1,5 +1,6 @@
 -- A sled that a fleet does not have covers no cell: it may stand at every place of the floor, and meets nobody.
 use Rattle.std.specs.Prelude.{◌≡◌, ℕ, ◌≤◌, Bool, true, false, not, ◌&&◌, ℤ, nat_lt, refl}
+use Rattle.std.proofs.Math.Bool.{and-true}
 use Rattle.std.proofs.Common.{ap, ◌∙◌, ⊎_elim}
 use Rattle.std.proofs.lemmas.Bool.{both_ways, cases_Bool, and_left, and_right, le-ltb}
 use Rattle.grid.specs.declared.floor.Floor.{Floor}
@@ -24,13 +25,10 @@ absent t s h x y = and_left (nat_lt s t.count) _ (le-ltb s t.count h)
 none_passes : (p : Offsets) → Nothing p → some_offset p ≡ false
 none_passes p none = ⊎_elim (λ e. let (x, y, _, _, hit) = offset_is p e in absurd (both_ways _ (none x y) hit)) (λ e. e) (cases_Bool (some_offset p))
 
-and_true : (b : Bool) → (b && true) ≡ b
-and_true b = elim b as (λ t. (t && true) ≡ t) [ true ↦ refl | false ↦ refl ]
-
 pub nothing_stands : (offsets : Offsets) (floor : Floor) (u : Position) → Nothing offsets → may_stand offsets floor u ≡ on_floor floor u.column u.row
 nothing_stands offsets floor u none =
     ap (λ b. on_floor floor u.column u.row && not b) (none_passes (blocked offsets floor u) (λ x y. and_left (offsets x y) _ (none x y)))
-    ∙ and_true (on_floor floor u.column u.row)
+    ∙ and-true (on_floor floor u.column u.row)
 
 module _ (first : Offsets) (u : Position) (second : Offsets) (v : Position) where
   pub nothing_shares : Nothing first → share_cell first u second v ≡ false

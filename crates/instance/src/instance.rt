@@ -13,7 +13,8 @@ use walk::horizon::Horizon;
 mod answers;
 mod calls;
 
-// What is worked out of sleds stands in lists beside each other: each is made by a function of its own, and asked for by itself.
+// What is worked out of sleds stands in three lists, and not in one of structs, which is no plainer: each list is made whole by a function
+// of its own, and each ghost field tells of one list, and would have to pick its part out of every struct.
 #[derive(Clone, Copy)]
 pub struct Instance {
     horizon: Horizon,

@@ -13,7 +13,7 @@ use Rattle.job.specs.declared.field.Header.{Header}
 use Rattle.job.specs.declared.value.Value.TheVariants.{Placed}
 use Rattle.job.specs.Shapes.{sled_ok, outgrown}
 use Rattle.fault.specs.declared.cause.Cause.TheVariants.{ValueOutsideLimits, OffsetTooFar}
-use Rattle.job.specs.Values.{check_value, refuse_for}
+use Rattle.job.specs.Values.{check_value, refused_at}
 use Rattle.job.specs.Format.{field, end_field, sled_field, shape_bytes, tail_bytes}
 use Rattle.job.specs.Reading.{and_then, checked, header_of, due_entry, entry_of, entry_size, is_end, tag_due, rectangle_of, drawing_of, within_limits, sled_in, sled_of}
 use Rattle.job.specs.Sound.{is_drawing, sound_sled}
@@ -122,8 +122,8 @@ pub record Found (columns rows count : ℕ) (drawn : Bool) (rest : List ℕ) (s 
 -- a sled that passed its limits
 limits_ok : (columns rows at : ℕ) (sled s : SledValue) → within_limits columns rows at sled ≡ Ok (Some s) → ((sled_ok columns rows sled && not (outgrown sled.shape sled.skirt)) ≡ true) × (sled ≡ s)
 limits_ok columns rows at sled s e =
-    elim (sled_ok columns rows sled) as (λ a. and_then (refuse_for (cond a (cond (outgrown sled.shape sled.skirt) (Some OffsetTooFar) None) (Some ValueOutsideLimits)) at) (λ _. Ok (Some sled)) ≡ Ok (Some s) → ((a && not (outgrown sled.shape sled.skirt)) ≡ true) × (sled ≡ s)) [
-      | true ↦ elim (outgrown sled.shape sled.skirt) as (λ b. and_then (refuse_for (cond b (Some OffsetTooFar) None) at) (λ _. Ok (Some sled)) ≡ Ok (Some s) → (not b ≡ true) × (sled ≡ s)) [
+    elim (sled_ok columns rows sled) as (λ a. and_then (refused_at (cond a (cond (outgrown sled.shape sled.skirt) (Err OffsetTooFar) (Ok tt)) (Err ValueOutsideLimits)) at) (λ _. Ok (Some sled)) ≡ Ok (Some s) → ((a && not (outgrown sled.shape sled.skirt)) ≡ true) × (sled ≡ s)) [
+      | true ↦ elim (outgrown sled.shape sled.skirt) as (λ b. and_then (refused_at (cond b (Err OffsetTooFar) (Ok tt)) at) (λ _. Ok (Some sled)) ≡ Ok (Some s) → (not b ≡ true) × (sled ≡ s)) [
         | true ↦ (λ h. let z : ◌≡◌ {A = ℕ} 0 1 = cc in absurd (omega arith))
         | false ↦ (λ h. (refl, cc))
       ]

@@ -1,21 +1,22 @@
 -- Each sled of a job is within its limits.
-use Rattle.std.proofs.Common.{◌≡◌, ℕ, zero, suc, ◌<◌, Bool, true, false, not, ◌&&◌, ◌||◌, ltb, leb, List, [], ◌∷◌, length, get_or, Some, None, Ok, Err, Option, Result, sym, subst, arith}
-use Rattle.std.specs.Option.{MatchOption}
+use Rattle.std.proofs.Common.{◌≡◌, ℕ, zero, suc, ◌<◌, Bool, true, false, not, ◌&&◌, ◌||◌, ltb, leb, List, [], ◌∷◌, length, get_or, Ok, Err, Result, sym, ap, subst, arith}
+use Rattle.std.specs.Result.{MatchResult, IsErrAnd}
 use Rattle.std.proofs.lemmas.Bool.{and_parts}
 use Rattle.std.proofs.lemmas.Bool.Decides.{nat_tests}
 use Rattle.fault.specs.declared.cause.Cause.{Cause}
 use Rattle.fault.specs.declared.cause.Fault.{Fault}
 use Rattle.fault.specs.Causes.{fault_at}
-use Rattle.job.specs.Values.{refuse_for}
+use Rattle.job.specs.Values.{refused_at}
 use Rattle.job.specs.declared.sled_value.SledValue.{SledValue}
 use Rattle.job.specs.Jobs.{smallest_sled}
 use Rattle.job.specs.Shapes.{sled_ok, shape_ok, outgrown}
 use Rattle.job.specs.Sound.{sound_sled, sound_sleds, is_drawing, eight_rows}
 
--- a fault that was looked for is what is told
-pub refused_by : {P : Cause → Type 0} (o : Option Cause) (at : ℕ) (r : Result (Unit {0}) Fault) → ((cause : Cause) → P cause → r ≡ Err (fault_at cause at)) → MatchOption o (r ≡ Ok tt) P → r ≡ refuse_for o at
-refused_by None at r told h = h
-refused_by (Some cause) at r told h = told cause h
+-- a fault that a check told is the one at the field
+pub refused_by : {P : Cause → Fault → Type 0} (o : Result (Unit {0}) Cause) (at : ℕ) (r : Result (Unit {0}) Fault) → ((cause : Cause) (fault : Fault) → P cause fault → fault ≡ fault_at cause at) → MatchResult o (λ u. r ≡ Ok u) (λ cause. IsErrAnd r (P cause)) → r ≡ refused_at o at
+refused_by (Ok u) at r told h = h
+refused_by (Err cause) at (Err fault) told h = ap Err (told cause fault h)
+refused_by (Err cause) at (Ok u) told h = absurd h
 
 pub sound_at : (sleds : List SledValue) (columns rows : ℕ) (drawn : Bool) (n : ℕ) → sound_sleds columns rows drawn sleds ≡ true → n < length sleds → sound_sled columns rows (get_or sleds n smallest_sled) ≡ true
 sound_at [] columns rows drawn n sound below = absurd (omega arith)

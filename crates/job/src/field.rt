@@ -49,7 +49,7 @@ impl<'a> Field<'a> {
         match self.rest {
             [tag, high, low, ..] => Ok(Header {
                 tag: *tag,
-                size: 256 * u16::from(*high) + u16::from(*low),
+                size: u16::from_be_bytes([*high, *low]),
             }),
             _ => Err(self.refused(Cause::EndsInsideField)),
         }
@@ -60,7 +60,7 @@ impl<'a> Field<'a> {
         ensures { result ≡ check_value value self.entry.at }
     {
         let at = self.at;
-        value.fault().map_or(Ok(()), |cause| Err(cause.at(at)))
+        value.check().map_err(|cause| cause.at(at))
     }
 
     // The value, where the field has the tag and one byte.

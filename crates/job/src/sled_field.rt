@@ -68,7 +68,7 @@ fn read_entry(field: Field, sleds: &[Sled]) -> Result<Entry, Fault>
     Ok(entry)
 }
 
-// A sled of a shape, by its skirt, start and goal.
+// A sled of a shape, by its skirt, start and goal. By number: a slice pattern needs an arm for a length that the caller has ruled out.
 fn placed(shape: Shape, tail: &[u8]) -> SledValue
     requires { 5 ≤ length tail.now }
     ensures { result ≡ placed_of shape tail.now }

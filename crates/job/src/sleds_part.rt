@@ -10,7 +10,8 @@ use crate::sleds::{Sleds, no_sleds};
 use fault::cause::{Cause, Fault};
 use grid::floor::Floor;
 
-// All sleds from a byte on. Nothing may follow the end.
+// All sleds from a byte on. Nothing may follow the end. By file and place: of a field that moves on, the loop would have to say that its
+// rest is what is left of the file.
 pub(crate) fn read_sleds(file: &[u8], start: usize, floor: &Floor) -> Result<Sleds, Fault>
     requires { start ≤ length file.now }
     ensures { shown sleds_told result ≡ sleds_of floor.now.columns floor.now.rows start false [] (drop start file.now) }

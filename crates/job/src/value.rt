@@ -1,6 +1,6 @@
 // What a field holds, by its tag, and whether that lies within its limits.
 ghost use Rattle.std.specs.Prelude.{◌≡◌, ◌&&◌, nat_lt};
-ghost use Rattle.job.specs.Values.{fault_of};
+ghost use Rattle.job.specs.Values.{limits_of};
 
 use crate::sled_value::SledValue;
 use fault::cause::Cause;
@@ -14,7 +14,7 @@ pub(crate) struct Sides {
 }
 
 impl Sides {
-    // Whether a place lies on the floor.
+    // Whether a place lies on the floor. A floor answers the same of places of the board; these may lie beyond it.
     pub(crate) fn has(self, place: Position) -> bool
         ensures { result ≡ (nat_lt place.column self.columns && nat_lt place.row self.rows) }
     {
@@ -31,22 +31,22 @@ pub(crate) enum Value {
 }
 
 impl Value {
-    // Why the value is refused, where it is outside its limits.
-    pub(crate) fn fault(self) -> Option<Cause>
-        ensures { result ≡ fault_of self }
+    // Refuses a value outside its limits.
+    pub(crate) fn check(self) -> Result<(), Cause>
+        ensures { result ≡ limits_of self }
     {
         match self {
-            Value::Limit(1..=255) => None,
+            Value::Limit(1..=255) => Ok(()),
             Value::Floor(
                 Sides {
                     columns: 1..=16,
                     rows: 1..=16,
                 },
-            ) => None,
-            Value::Placed(sled, sides) if !sled.is_sound(sides) => Some(Cause::ValueOutsideLimits),
-            Value::Placed(sled, _) if sled.shape.outgrows(sled.skirt) => Some(Cause::OffsetTooFar),
-            Value::Placed(..) => None,
-            Value::Limit(_) | Value::Floor(_) => Some(Cause::ValueOutsideLimits),
+            ) => Ok(()),
+            Value::Placed(sled, sides) if !sled.is_sound(sides) => Err(Cause::ValueOutsideLimits),
+            Value::Placed(sled, _) if sled.shape.outgrows(sled.skirt) => Err(Cause::OffsetTooFar),
+            Value::Placed(..) => Ok(()),
+            Value::Limit(_) | Value::Floor(_) => Err(Cause::ValueOutsideLimits),
         }
     }
 }

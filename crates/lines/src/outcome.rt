@@ -12,7 +12,7 @@ pub enum Outcome {
     Full { bound: usize },
 }
 
-// Appends the line; numbers are decimal without leading zeros.
+// Appends the line; numbers are decimal without leading zeros. By hand, as all lines here: they go into the caller's memory.
 #[tactic(auto, unfolding(crate::specs::Plans::outcome_line))]
 pub(crate) fn put_outcome(text: &mut Text, outcome: Outcome, turns: usize)
     ensures text { Appends text.old (outcome_line outcome turns) text.new }

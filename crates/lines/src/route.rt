@@ -25,7 +25,7 @@ fn put_places(text: &mut Text, route: &[u8])
     }
 }
 
-// A blank, the column, a comma and the row.
+// A blank, the column, a comma and the row. By hand, as `Display` needs a formatter, and this goes into the caller's memory.
 fn put_place(text: &mut Text, number: u8)
     ensures text { Appends text.old (place_text number) text.new }
     ensures short { length (place_text number) ≤ 6 }

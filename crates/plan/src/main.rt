@@ -44,7 +44,7 @@ fn plan(rt: &HostRuntime, job: &Job) -> anyhow::Result<()> {
     }
     let mut lines = [0; LINES_BUFFER];
     match search.print(&mut lines) {
-        Ok(length) => put(rt, &lines, length),
+        Ok(length) => put(rt, &lines[..length.min(LINES_BUFFER)]),
         Err(fault) => refuse(rt, fault),
     }
 }
@@ -61,13 +61,13 @@ fn check(rt: &HostRuntime, job: &Job) -> anyhow::Result<()> {
 fn refuse(rt: &HostRuntime, fault: Fault) -> anyhow::Result<()> {
     let mut lines = [0; LINES_BUFFER];
     if let Ok(length) = write_refusal(fault, &mut lines) {
-        put(rt, &lines, length)?;
+        put(rt, &lines[..length.min(LINES_BUFFER)])?;
     }
     Err(anyhow!("refused"))
 }
 
-// The first so many bytes of the lines on standard output.
-fn put(rt: &HostRuntime, lines: &[u8; LINES_BUFFER], length: usize) -> anyhow::Result<()> {
-    rt.stdout().write_all(&lines[..length.min(LINES_BUFFER)])?;
+// The lines on standard output.
+fn put(rt: &HostRuntime, lines: &[u8]) -> anyhow::Result<()> {
+    rt.stdout().write_all(lines)?;
     Ok(())
 }

@@ -49,7 +49,8 @@ impl<F: Fleet, R: SplitRule> Search<F, R> {
         }
     }
 
-    // The least sum of an open node; 0 where there is none.
+    // The least sum of an open node. 0 is told where there is none, which is never so in a search that is solved or full: were the option
+    // passed on, that such a search is told of would rest on this fact of the tree.
     fn least_sum(&self) -> usize
         ensures { TellsSum R.SplitRule.sets self.now result }
     {
@@ -57,7 +58,8 @@ impl<F: Fleet, R: SplitRule> Search<F, R> {
     }
 }
 
-// A route for each sled that there can be. Only those of the problem's sleds count, and of each only the instants up to the horizon.
+// A route for each sled that there can be: the rows have one size, as in a node, so that no memory is asked for here. Only those of the
+// problem's sleds count, and of each only the instants up to the horizon.
 fn plan<P: Problem>(engine: &Engine, problem: &P) -> [Route; MAX_SLEDS]
     ensures { TellsRoutes (P.Problem.model problem.now) engine.now 6 result }
 {

@@ -11,8 +11,8 @@ use walk::count::Count;
 use walk::tally::count_routes;
 
 impl<F: Fleet, R: SplitRule> Search<F, R> {
-    // The number of routes of least cost of a sled, at most 65,535. The count takes no rows; the first 256 entries of both rows then
-    // hold 0.
+    // The number of routes of least cost of a sled, at most 65,535. Both rows are the caller's, and are promised to hold 0 in their first
+    // 256 entries; the count itself takes no rows.
     pub fn routes(&self, sled: usize, row: &mut [Count], spare: &mut [Count]) -> Result<u16, Fault>
         ensures { Counts sled row.old spare.old row.new spare.new R.SplitRule.sets self.now result }
     {

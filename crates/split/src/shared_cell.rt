@@ -42,15 +42,10 @@ fn covers_first_shared<F: Fleet>(fleet: &F, pair: Pair, side: Side, w: Place) ->
     ensures value { result ≡ shared_cell_sets (situation (F.Fleet.size fleet.now) (F.Fleet.offsets fleet.now) pair) side (position_of w) }
     ensures meaning { Decides result (CoversFirst (situation (F.Fleet.size fleet.now) (F.Fleet.offsets fleet.now) pair) side (position_of w)) }
 {
-    if pair.i >= pair.j {
-        return false;
-    }
-    let Some(cell) = first_shared_cell(fleet, pair) else {
-        return false;
-    };
     let sled = match side {
         Side::Lower => pair.i,
         Side::Upper => pair.j,
     };
-    covers_cell(fleet, sled, w, cell)
+    pair.i < pair.j
+        && first_shared_cell(fleet, pair).is_some_and(|cell| covers_cell(fleet, sled, w, cell))
 }

@@ -31,6 +31,7 @@ impl SplitRule for Single {
 
     ghost only = { Prim.search rules };
 
+    // As with one side but for the upper place; a function for both would take that side as a closure.
     fn contains<F: Fleet>(&self, fleet: &F, pair: Pair, side: Side, w: Place) -> bool {
         meets(fleet, pair)
             && match side {

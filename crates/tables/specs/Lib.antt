@@ -1,7 +1,6 @@
 pub mod DifferenceSets
 pub mod Entries
 pub mod NoTables
-pub mod Numbers
 pub mod Sweeps
 pub mod TabledFleets
 pub mod TabledTerms

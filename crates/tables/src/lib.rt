@@ -2,6 +2,5 @@
 #![tactic(auto)]
 
 pub mod differences;
-mod offsets;
 mod table;
 pub mod tabled;

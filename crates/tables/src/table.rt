@@ -5,7 +5,6 @@ ghost use Rattle.fleet.specs.Scans.{TellsBeside};
 ghost use Rattle.tables.specs.Tables.{IsSquare, set_of, Says, RowSays};
 
 use fleet::offset::Offset;
-use fleet::scan::is_within;
 use std::array;
 
 // Row by row, for parts from -REACH to REACH.
@@ -55,7 +54,7 @@ impl<const REACH: u8, const SIDE: usize> Table<REACH, SIDE> {
     pub(crate) fn has(&self, offset: Offset) -> bool
         ensures { result ≡ set_of REACH self.now.rows offset.dx offset.dy }
     {
-        if !is_within(REACH, offset.dx) || !is_within(REACH, offset.dy) {
+        if !offset.is_within(REACH) {
             return false;
         }
         let (column, row) = (offset.dx + REACH as i8, offset.dy + REACH as i8);

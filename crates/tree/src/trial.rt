@@ -7,7 +7,8 @@ pub enum Floor {
     Square,
 }
 
-// A verdict, with the number of the node that solves it. What a trial says stands apart from what a search comes to.
+// A verdict, with the number of the node that solves it. The engine has a verdict of its own: the tree is below the engine, and is stated
+// by itself.
 #[derive(Clone, Copy)]
 pub enum Outcome {
     Working,
@@ -17,7 +18,8 @@ pub enum Outcome {
 }
 
 // A search of one or two sleds, a number of turns, and what is told then: the bound, the verdict, and where both sleds are at
-// instant 1 if it is solved. Starts and goals stand apart, as a setting asks for the one or the other by a sled's number.
+// instant 1 if it is solved. Starts and goals stand apart, as a setting asks for the one or the other by a sled's number; of a sled alone
+// the second do not count.
 #[derive(Clone, Copy)]
 pub struct Trial {
     pub floor: Floor,

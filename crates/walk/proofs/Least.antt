@@ -3,6 +3,7 @@ use Rattle.std.proofs.Common.{◌≡◌, ℕ, zero, suc, ◌+◌, ◌-◌, ◌<�
 use Rattle.std.specs.List.{AllByRecursion}
 use Rattle.std.proofs.ByRecursion.{All-weaker}
 use Rattle.std.proofs.lemmas.Bool.{cases_Bool, cases_lt, eqb-true, eq-eqb, and_parts, and_from, both_ways}
+use Rattle.std.proofs.Math.Bool.{and-true}
 use Rattle.walk.specs.Kinds.{count, capped}
 use Rattle.walk.specs.Laws.{capped_laws, same_count}
 use Rattle.walk.specs.Semiring.{summed}
@@ -14,7 +15,7 @@ use Rattle.walk.proofs.Alls.{all_kept, all_two, all_below}
 use Rattle.walk.proofs.Firsts.{first_kept, first_same, first_some, first_passes, kept_same, kept_kept, cheapest_are, none_passes, kept_none, least_first}
 use Rattle.walk.proofs.Fits.{fits, fitting_weight, reach_weight}
 use Rattle.walk.proofs.Plainly.{sequences_all}
-use Rattle.walk.proofs.Reach.{reach, some_fits, reach_fits, and_true}
+use Rattle.walk.proofs.Reach.{reach, some_fits, reach_fits}
 use Rattle.walk.proofs.Totals.{same_bool}
 
 -- a sequence of n steps has n places after the first
@@ -65,7 +66,7 @@ module _ (a : ℕ → ℕ → ℕ → Bool) (goal : ℕ) (place : goal < 256) (n
   no_routes h =
       let left : n - n ≡ 0 = omega arith in
       let ends : waits a goal n (n - n) ≡ true = ap (waits a goal n) left in
-      let none : reach a goal n 0 start ≡ false = sym (and_true (reach a goal n 0 start)) ∙ ap (λ b. reach a goal n 0 start && b) (sym ends) ∙ h n (omega arith) in
+      let none : reach a goal n 0 start ≡ false = sym (and-true (reach a goal n 0 start)) ∙ ap (λ b. reach a goal n 0 start && b) (sym ends) ∙ h n (omega arith) in
       kept_none (passes a 0 start) (filter (λ s. eqb (end start s) goal) (sequences n start)) none
 
   pub no_route : ((k : ℕ) → k ≤ n → arrives a n start goal k ≡ false) → chosen a n start goal ≡ None

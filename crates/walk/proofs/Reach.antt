@@ -4,6 +4,7 @@ use mathlib.Core.Path.{fun_ext}
 use Rattle.std.specs.Option.{option_map}
 use Rattle.std.proofs.lemmas.Bool.{eqb-true, eq-eqb, and_parts, and_from}
 use Rattle.grid.specs.Board.{next}
+use Rattle.std.proofs.Math.Bool.{and-true}
 use Rattle.walk.specs.Kinds.{either_both}
 use Rattle.walk.specs.Laws.{either_both_laws}
 use Rattle.walk.specs.Semiring.{summed}
@@ -23,10 +24,6 @@ and_comm false false = refl
 pub cond_same : (b : Bool) → cond b true false ≡ b
 cond_same true = refl
 cond_same false = refl
-
-pub and_true : (b : Bool) → (b && true) ≡ b
-and_true true = refl
-and_true false = refl
 
 -- to wait for no step is allowed
 pub waits_all : (a : ℕ → ℕ → ℕ → Bool) (goal n t : ℕ) → n ≤ t → waits a goal t (n - t) ≡ true
@@ -73,7 +70,7 @@ module _ (a : ℕ → ℕ → ℕ → Bool) (goal : ℕ) where
         let test : (r : ℕ) → summed either_both (fits a goal (suc k) t p) (map (λ s. r ∷ s) (sequences (more k m) r)) ≡ (a t p r && reach k (t + 1) r) = λ r.
         summed_map either_both (fits a goal (suc k) t p) (λ s. r ∷ s) (sequences (more k m) r)
         ∙ step_fits k (more k m) t p r
-        ∙ ap (λ b. a t p r && b) (reach_fits k m (t + 1) r ∙ ap (λ i. reach k (t + 1) r && waits a goal i m) (omega arith) ∙ ap (λ b. reach k (t + 1) r && b) kept ∙ and_true (reach k (t + 1) r)) in
+        ∙ ap (λ b. a t p r && b) (reach_fits k m (t + 1) r ∙ ap (λ i. reach k (t + 1) r && waits a goal i m) (omega arith) ∙ ap (λ b. reach k (t + 1) r && b) kept ∙ and-true (reach k (t + 1) r)) in
         first_joined (fits a goal (suc k) t p) (λ r. map (λ s. r ∷ s) (sequences (more k m) r)) (next p) q (ap (λ f. find f (next p)) (fun_ext test) ∙ e)
         ∙ first_map (fits a goal (suc k) t p) (λ s. q ∷ s) (sequences (more k m) q)
         ∙ ap (λ f. option_map (λ s. q ∷ s) (find f (sequences (more k m) q))) (fun_ext (λ s. fits_more a goal k t p q s ∙ ap (λ b. b && fits a goal k (t + 1) q s) allowed))

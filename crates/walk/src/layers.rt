@@ -17,7 +17,7 @@ fn gather<W: Weight + Copy, S: Steps<W>>(steps: &S, instant: u8, row: &Layer<W>,
     ensures { result ≡ stepped W.ops (S.step steps.now) instant row.now to }
 {
     let mut sum = W::nought();
-    // By hand: a fold over the sides that a place has takes a quarter longer.
+    // A fold over the sides is no plainer, and takes a quarter longer.
     for towards in MOVES {
         if let Some(from) = neighbour(to, towards) {
             let weight = steps.weight(Step { instant, from, to });
@@ -48,7 +48,7 @@ pub(crate) fn walk_row<W: Weight + Copy, S: Steps<W>>(steps: &S, start: u8, coun
     ensures { Row W.ops (total W.ops (S.step steps.now) count 0 start) result }
 {
     let mut row = begin(start);
-    // By hand: a fold, which passes each row on by value, makes a count of routes a ninth slower.
+    // A fold is no plainer: its closure carries a clause, which the loop's body does without, and each row goes through it by value.
     for instant in 0..count {
         row = advance(steps, instant, &row);
     }

@@ -4,7 +4,7 @@ ghost use Rattle.walk.specs.Examples.{open_floor};
 ghost use Rattle.walk.specs.Sleds.{stands, both_ends};
 
 use crate::weight::{Step, Steps};
-use grid::place::BOARD_PLACES;
+use grid::place::{BOARD_PLACES, Place};
 use std::array;
 
 // Whether the sled may stand at each place of the board: worked out before a walk, so that the walk asks neither fleet nor floor.
@@ -21,8 +21,12 @@ impl Standing {
         Standing {
             at: array::from_fn(
                 |place|
+                    requires { place < BOARD_PLACES }
                     ensures { result ≡ open_floor columns rows place }
-                { place % 16 < columns && place / 16 < rows },
+                {
+                    let place = Place::from(place as u8);
+                    usize::from(place.column) < columns && usize::from(place.row) < rows
+                },
             ),
         }
     }

@@ -5,7 +5,7 @@ ghost use Rattle.fleet.specs.Skirts.{skirt_told, within_more};
 ghost use Rattle.std.proofs.Common.{rules, arith};
 
 use crate::offset::Offset;
-use crate::scan::{REACH, any_beside, any_offset, is_within};
+use crate::scan::{REACH, any_beside, any_offset};
 use crate::skirt::{Margin, Skirt};
 use crate::{Fleet, MAX_SLEDS};
 use fault::cause::{Cause, Fault};
@@ -34,8 +34,7 @@ impl<F: Fleet> Skirt<F> {
         }
         let limit = REACH - cells;
         let reaches_past = |offset: Offset| {
-            self.inner.has(sled, offset)
-                && !(is_within(limit, offset.dx) && is_within(limit, offset.dy))
+            self.inner.has(sled, offset) && !offset.is_within(limit)
         };
         if any_offset(reaches_past) {
             return Err(Cause::OffsetTooFar.at(sled as usize));
@@ -49,10 +48,7 @@ impl<F: Fleet> Skirt<F> {
         requires { cells ≤ 3 }
         ensures { result ≡ skirt cells (F.Fleet.offsets self.now.inner sled) offset.dx offset.dy }
     {
-        if !is_within(REACH, offset.dx) || !is_within(REACH, offset.dy) {
-            return false;
-        }
-        any_beside(|near| self.inner.has(sled, near), cells, offset)
+        offset.is_within(REACH) && any_beside(|near| self.inner.has(sled, near), cells, offset)
     }
 }
 

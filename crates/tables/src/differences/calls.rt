@@ -10,21 +10,19 @@ ghost use Rattle.tables.specs.DifferenceSets.{differences, difference_set, Diffe
 ghost use Rattle.tables.specs.Sweeps.{half};
 
 use crate::differences::Differences;
-use crate::offsets::offsets_of;
 use crate::table::Table;
 use fleet::Fleet;
 use fleet::offset::Offset;
+use fleet::scan::any_offset;
 use geometry::relative::relative;
 use grid::moves::Move;
 use grid::place::Place;
 
-// Whether sled j has one of some offsets, moved by a difference.
-fn has_one_moved<F: Fleet>(fleet: &F, j: u8, offsets: &[Offset], difference: Offset) -> bool
-    ensures { result ≡ list_any (λ o. F.Fleet.offsets fleet.now j (o.dx +ℤ difference.dx) (o.dy +ℤ difference.dy)) offsets.now }
+// Whether sled j has some offset of sled i, moved by a difference.
+fn are_apart<F: Fleet>(fleet: &F, i: u8, j: u8, difference: Offset) -> bool
+    ensures { result ≡ differences (F.Fleet.offsets fleet.now i) (F.Fleet.offsets fleet.now j) difference.dx difference.dy }
 {
-    offsets
-        .iter()
-        .any(|offset| fleet.has_moved(j, *offset, difference))
+    any_offset(|offset| fleet.has(i, offset) && fleet.has_moved(j, offset, difference))
 }
 
 impl Differences {
@@ -33,11 +31,8 @@ impl Differences {
         ensures table { DifferencesOf (F.Fleet.offsets fleet.now i) (F.Fleet.offsets fleet.now j) result }
         ensures meaning { (x y : ℤ) → Decides (difference_set result x y) (Difference (F.Fleet.offsets fleet.now i) (F.Fleet.offsets fleet.now j) x y) }
     {
-        let offsets = offsets_of(fleet, i);
         Differences {
-            table: Table::of(|difference| {
-                has_one_moved(fleet, j, offsets.as_slice(), difference)
-            }),
+            table: Table::of(|difference| are_apart(fleet, i, j, difference)),
         }
     }
 

@@ -6,16 +6,13 @@ use Rattle.tree.specs.Plans.{Plan}
 use Rattle.engine.specs.Table.{plan_of, sled_constraint_of, blank}
 use Rattle.engine.proofs.Trails.{timely_fits, trail_timely, more_timely}
 use Rattle.engine.proofs.Forming.{formed_child}
-use Rattle.engine.proofs.Growing.{made_none, made_some, child_none, child_some}
+use Rattle.engine.proofs.Growing.{made_none, made_some, none_made, child_none, child_some}
 use Rattle.engine.proofs.grow.child.Goals as goal
 
 pub collect-forbidden-requires : goal.collect-forbidden-requires
 collect-forbidden-requires g c =
     let m = g.P.Problem.model c.args.problem.now in
     (c.requires.known, timely_fits m.setting c.args.own.constraint (g.met.P.Problem.keeps c.args.problem.now).short c.requires.lies.1)
-
-none_made : (k : ℕ) (o : Option Node) → o ≡ None → MadeWellFormed k o
-none_made k o e = subst (MadeWellFormed k) (sym e) tt
 
 pub returns-in_err-route : goal.returns-in_err-route
 returns-in_err-route g c = record {

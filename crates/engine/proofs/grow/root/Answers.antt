@@ -2,11 +2,8 @@ use Rattle.std.proofs.Common.{◌≡◌, ℕ, [], None, Option, sym, refl, subst
 use Rattle.engine.specs.declared.node.Node.{Node}
 use Rattle.engine.specs.WellFormed.{MadeWellFormed}
 use Rattle.std.proofs.lemmas.Bool.{false≢true}
-use Rattle.engine.proofs.Growing.{made_none, made_some}
+use Rattle.engine.proofs.Growing.{made_none, made_some, none_made}
 use Rattle.engine.proofs.grow.root.Goals as goal
-
-none_made : (k : ℕ) (o : Option Node) → o ≡ None → MadeWellFormed k o
-none_made k o e = subst (MadeWellFormed k) (sym e) tt
 
 pub returns-in_err-routes : goal.returns-in_err-routes
 returns-in_err-routes g c = record {

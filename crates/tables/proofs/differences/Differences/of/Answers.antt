@@ -1,7 +1,5 @@
-use Rattle.std.proofs.Common.{◌≡◌, ◌+ℤ◌, ◌∙◌, rules}
-use Rattle.std.specs.List.{list_any}
+use Rattle.std.proofs.Common.{rules}
 use Rattle.std.proofs.lemmas.Bool.Decides.{Decides-at}
-use Rattle.few.specs.Told.{told}
 use Rattle.tables.specs.DifferenceSets.{differences}
 use Rattle.tables.specs.Entries.{says_set}
 use Rattle.tables.proofs.Sweeping.{difference_told, differences_near}
@@ -14,10 +12,7 @@ returns g c =
     let second = g.F.Fleet.offsets f c.args.j in
     let near = g.met.F.Fleet.near f c.args.i in
     let near' = g.met.F.Fleet.near f c.args.j in
-    let offsets = c.offsets_of-offsets in
-    let says = c.of.ensures (differences first second) (λ o across down r e.
-    let found : r ≡ list_any (λ q. second (q.dx +ℤ o.dx) (q.dy +ℤ o.dy)) (told offsets.result) = search rules in
-    found ∙ offsets.ensures (λ a b. second (a +ℤ o.dx) (b +ℤ o.dy))) in
+    let says = c.of.ensures (differences first second) (λ o across down r e. search rules) in
     let same = says_set 14 (differences first second) c.of.result.rows says (differences_near first second near near') in
     record {
       table = record { first_near = near; second_near = near'; set = λ i x y. same x y i };
