@@ -3,4 +3,5 @@ pub mod Decks
 pub mod Releasing
 pub mod Law
 pub mod Runs
+pub mod Calls
 pub mod Workings

@@ -2,6 +2,7 @@
 #![tactic(auto)]
 
 ghost use Rattle.deck.specs.Law.{HistoriesAreLawful};
+ghost use Rattle.deck.specs.Calls.{CallsAreLawful};
 
 pub mod call;
 mod hand;
@@ -12,7 +13,9 @@ mod state;
 
 pub use state::Deck;
 
-// Whatever slips are handed in, the calls that one deck grants keep the law of runs.
+// Whatever slips are handed in, and in whatever order, the calls of one deck keep the law of runs: as its answers tell them, and as the
+// contracts of `release`, `onward`, `finish` and `recall` do.
 pub fn runs_are_lawful()
-    ensures { HistoriesAreLawful }
+    ensures histories { HistoriesAreLawful }
+    ensures calls { CallsAreLawful }
 {}

@@ -1,52 +1,84 @@
 // Reads a job file from standard input and prints the cheapest collision-free plan, or that there is none, or that the table of
-// nodes is full, or the refusal. With the argument --check it prints the job and what each sled could do alone.
+// nodes is full, or the refusal. With the argument --drive it then drives the plan on a deck; with --check it prints the job and what
+// each sled could do alone.
 #![tactic(auto)]
 
-use anyhow::anyhow;
+use crate::drive::drive;
+use anyhow::{anyhow, bail};
 use fault::cause::Fault;
 use fault::refusal::{LINES_BUFFER, write_refusal};
 use job::job::Job;
 use search::Search;
 use search::call::{Call, RunError};
+use search::verdict::Verdict;
 use split::shared_cell::SharedCell;
-use standard::fleet_of;
+use standard::{JobFleet, fleet_of};
 use std::env;
 use std::io::{Read, Write};
 
 mod alone;
+mod drive;
 mod printed;
 mod show;
 
-fn main(rt: HostRuntime) -> anyhow::Result<()> {
-    let mut file = Vec::new(rt.alloc());
-    rt.stdin().read_to_end(&mut file)?;
-    let mut job = Job::new();
-    match job.read(file.as_slice()) {
-        Ok(()) if only_checks(&rt)? => check(&rt, &job),
-        Ok(()) => plan(&rt, &job),
-        Err(fault) => refuse(&rt, fault),
+// What is to be done with a job.
+#[derive(Clone, Copy)]
+enum Mode {
+    Plan,
+    Drive,
+    Check,
+}
+
+impl Mode {
+    // The mode that an argument names.
+    fn named(word: &str) -> Option<Mode> {
+        match word {
+            "--drive" => Some(Mode::Drive),
+            "--check" => Some(Mode::Check),
+            _ => None,
+        }
     }
 }
 
-// Whether the argument --check is given.
-fn only_checks(rt: &HostRuntime) -> anyhow::Result<bool> {
-    Ok(env::args(rt)?.any(|word| word.as_str() == "--check"))
+fn main(rt: HostRuntime) -> anyhow::Result<()> {
+    let mode = env::args(&rt)?
+        .find_map(|word| Mode::named(word.as_str()))
+        .unwrap_or(Mode::Plan);
+    let mut file = Vec::new(rt.alloc());
+    rt.stdin().read_to_end(&mut file)?;
+    let mut job = Job::new();
+    job.read(file.as_slice())
+        .map_err(|fault| refused(&rt, fault))?;
+    match mode {
+        Mode::Plan => {
+            plan(&rt, &job)?;
+        }
+        Mode::Drive => {
+            let search = plan(&rt, &job)?;
+            if search.verdict() == Verdict::Solved {
+                drive(&rt, &search, job.sleds().len())?;
+            }
+        }
+        Mode::Check => check(&rt, &job)?,
+    }
+    Ok(())
 }
 
 // The joint plan: the job is opened, searched to its end, and told.
-fn plan(rt: &HostRuntime, job: &Job) -> anyhow::Result<()> {
+fn plan(rt: &HostRuntime, job: &Job) -> anyhow::Result<Search<JobFleet, SharedCell>> {
     let mut search = Search::new(rt.alloc(), fleet_of(job), SharedCell)?;
     let whole = [Call::Advance(u32::from(job.limit()) + 1)];
     match search.run(rt.alloc(), job, &whole) {
         Ok(_) => {}
-        Err(RunError::Refused(fault)) => return refuse(rt, fault),
-        Err(RunError::NoMemory) => return Err(anyhow!("there is no memory for the answers")),
+        Err(RunError::Refused(fault)) => return Err(refused(rt, fault)),
+        Err(RunError::NoMemory) => bail!("there is no memory for the answers"),
     }
     let mut lines = [0; LINES_BUFFER];
-    match search.print(&mut lines) {
-        Ok(length) => put(rt, &lines[..length.min(LINES_BUFFER)]),
-        Err(fault) => refuse(rt, fault),
-    }
+    let length = search
+        .print(&mut lines)
+        .map_err(|fault| refused(rt, fault))?;
+    put(rt, &lines[..length.min(LINES_BUFFER)])?;
+    Ok(search)
 }
 
 // The job, where its sleds stand, and the route of each as if the others were not there.
@@ -57,13 +89,15 @@ fn check(rt: &HostRuntime, job: &Job) -> anyhow::Result<()> {
     alone::show_routes(rt, job, &fleet)
 }
 
-// The refusal's line on standard output, and an error for the status.
-fn refuse(rt: &HostRuntime, fault: Fault) -> anyhow::Result<()> {
+// Puts the refusal's line on standard output, and gives an error for the status.
+fn refused(rt: &HostRuntime, fault: Fault) -> anyhow::Error {
     let mut lines = [0; LINES_BUFFER];
-    if let Ok(length) = write_refusal(fault, &mut lines) {
-        put(rt, &lines[..length.min(LINES_BUFFER)])?;
+    if let Ok(length) = write_refusal(fault, &mut lines)
+        && let Err(error) = put(rt, &lines[..length.min(LINES_BUFFER)])
+    {
+        return error;
     }
-    Err(anyhow!("refused"))
+    anyhow!("refused")
 }
 
 // The lines on standard output.
