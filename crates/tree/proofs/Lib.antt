@@ -10,4 +10,3 @@ pub mod Costs
 pub mod Choice
 pub mod Calls
 pub mod Law
-pub mod Trials

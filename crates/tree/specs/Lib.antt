@@ -10,4 +10,3 @@ pub mod Tree
 pub mod Calls
 pub mod Law
 pub mod Theorems
-pub mod Trials

@@ -5,11 +5,6 @@
 ghost use Rattle.tree.specs.Theorems.{CostIsLeast, ChoiceIsFirst, ChoiceIsSettled, PlannerKeepsTerms, ConflictIsFirst, ConflictIsSettled, CheapestIsLowest, CheapestIsSettled, ReplansOne, NodesDescend, NodesStay};
 ghost use Rattle.tree.specs.Theorems.{BoundsNeverExceedAPlan, BoundsNeverFall, SolvedIsLeastSum, NoneMeansNoPlan, SolvedSumsAgree, SearchEnds, TurnsCount, LargerLimitSame, RunsAreLawful};
 
-mod table;
-pub mod trial;
-
-pub use table::trials_come_out;
-
 // A route costs what it should, and the choice by enumeration is the first route of least cost.
 pub fn routes_are_chosen()
     ensures cost { CostIsLeast }

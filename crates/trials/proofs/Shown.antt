@@ -1,6 +1,6 @@
 -- The worked examples, by computation.
-use Rattle.std.proofs.Common.{◌≡◌, ℕ, Bool, true, false, ◌&&◌, [], ◌∷◌, ℤ, pos, Some, None, filter, refl, ap, ◌∙◌, arith}
-use Rattle.std.specs.List.{range_with_len}
+use Rattle.std.proofs.Common.{◌≡◌, ℕ, Bool, true, false, ◌&&◌, List, [], ◌∷◌, ◌++◌, ℤ, pos, filter, refl, ap, ◌∙◌, arith}
+use Rattle.std.specs.List.{AllByRecursion, range_with_len}
 use Rattle.std.proofs.lemmas.Int.{ints}
 use Rattle.std.proofs.lemmas.Bool.Decides.{nat_tests, not_from_Decides}
 use Rattle.grid.specs.declared.moves.Move.{Move}
@@ -17,16 +17,17 @@ use Rattle.split.specs.declared.pair.Side.{Side}
 use Rattle.split.specs.declared.pair.Side.TheVariants.{Lower, Upper}
 use Rattle.split.specs.Situations.{Situation, on_board, meet}
 use Rattle.grid.specs.Board.{next}
-use Rattle.walk.proofs.Shown.{corner_holds, too_soon_holds, just_in_time_holds}
+use Rattle.walk.specs.Sequences.{sequences}
 use Rattle.tree.specs.Lists.{joined, first_below, all_below, total, gather, least}
 use Rattle.tree.specs.Routes.{settled, cost}
 use Rattle.tree.specs.Plans.{sum}
 use Rattle.tree.specs.Constraints.{allows, obeys, constraints_on}
 use Rattle.tree.specs.Choice.{walks, passes, first_choice}
 use Rattle.tree.specs.Conflicts.{scan, first_conflict}
-use Rattle.tree.specs.Tree.{working, solved, none, full, first_constraint, second_constraint, routes_under, make_node, root, cheapest, bound, expand, turn_on, turn_at, turn, turns}
+use Rattle.tree.specs.Calls.{routes_at}
+use Rattle.tree.specs.Tree.{first_constraint, second_constraint, routes_under, make_node, root, cheapest, bound, expand, turn_on, turn_at, turn, turns}
 use Rattle.plans.specs.Instance.{is_step, stands_at, goes, meets_at, overlaps_in, collides_in, in_set}
-use Rattle.trials.specs.Trials.{at, two_at, places_of, searched, Holds, trials, AllHold}
+use Rattle.trials.specs.Trials.{at, two_at, places_of, Trial, shapes, routes, searches, trials, Holds}
 
 one_near : NearSet (rectangle 1 1)
 one_near x y e = ((grind (arith, nat_tests, ints, e), grind (arith, nat_tests, ints, e)), (grind (arith, nat_tests, ints, e), grind (arith, nat_tests, ints, e)))
@@ -62,30 +63,21 @@ met = refl
 places_are : (side : Side) → places_of pair side ≡ filter (λ n. on_board (position_at n) && covers (rectangle 2 2) (position_at n) (pos 1) (pos 1)) (range_with_len 0 256)
 places_are side = ap (λ (f : ℕ → Bool). filter f (range_with_len 0 256)) (λ i n. met i && (on_board (position_at n) && covers (rectangle 2 2) (position_at n) (column_is i) (row_is i)))
 
-too_short : Holds (searched 1 (at 0 0 ∷ []) (at 2 0 ∷ []) 3 1 None none)
-unfolding collides_in overlaps_in is_step next some_within in_row stands_at goes meets_at in_set joined first_below all_below total gather least settled cost sum allows obeys constraints_on walks passes first_choice scan first_conflict first_constraint second_constraint routes_under make_node root cheapest bound expand turn_on turn_at turn turns
-too_short = (refl, refl)
-
-in_two_steps : Holds (searched 2 (at 0 0 ∷ []) (at 2 0 ∷ []) 3 1 (Some 2) (solved 0))
-unfolding collides_in overlaps_in is_step next some_within in_row stands_at goes meets_at in_set joined first_below all_below total gather least settled cost sum allows obeys constraints_on walks passes first_choice scan first_conflict first_constraint second_constraint routes_under make_node root cheapest bound expand turn_on turn_at turn turns
-in_two_steps = (refl, refl)
-
-ends_at_first : Holds (searched 2 (at 0 0 ∷ at 2 0 ∷ []) (at 2 0 ∷ at 0 0 ∷ []) 3 0 (Some 4) working)
-unfolding collides_in overlaps_in is_step next some_within in_row stands_at goes meets_at in_set joined first_below all_below total gather least settled cost sum allows obeys constraints_on walks passes first_choice scan first_conflict first_constraint second_constraint routes_under make_node root cheapest bound expand turn_on turn_at turn turns
-ends_at_first = (refl, refl)
-
-ends_then : Holds (searched 2 (at 0 0 ∷ at 2 0 ∷ []) (at 2 0 ∷ at 0 0 ∷ []) 3 1 None working)
-unfolding collides_in overlaps_in is_step next some_within in_row stands_at goes meets_at in_set joined first_below all_below total gather least settled cost sum allows obeys constraints_on walks passes first_choice scan first_conflict first_constraint second_constraint routes_under make_node root cheapest bound expand turn_on turn_at turn turns
-ends_then = (refl, refl)
-
-ends_at_last : Holds (searched 2 (at 0 0 ∷ at 2 0 ∷ []) (at 2 0 ∷ at 0 0 ∷ []) 3 2 None none)
-unfolding collides_in overlaps_in is_step next some_within in_row stands_at goes meets_at in_set joined first_below all_below total gather least settled cost sum allows obeys constraints_on walks passes first_choice scan first_conflict first_constraint second_constraint routes_under make_node root cheapest bound expand turn_on turn_at turn turns
-ends_at_last = (refl, refl)
-
-ends_without_room : Holds (searched 2 (at 0 0 ∷ at 2 0 ∷ []) (at 2 0 ∷ at 0 0 ∷ []) 2 1 (Some 4) full)
-unfolding collides_in overlaps_in is_step next some_within in_row stands_at goes meets_at in_set joined first_below all_below total gather least settled cost sum allows obeys constraints_on walks passes first_choice scan first_conflict first_constraint second_constraint routes_under make_node root cheapest bound expand turn_on turn_at turn turns
-ends_without_room = (refl, refl)
-
-pub shown : AllHold trials
+shapes_hold : AllByRecursion Holds shapes
 unfolding some_within in_row
-shown = (do_collide (at 0 0) East (at 1 0) West refl, (no_collision (at 0 0) East (at 1 0) East refl, (do_collide (at 0 0) East (at 1 0) South refl, (refl, (refl, (refl, (refl, ((places_are Lower ∙ refl, places_are Upper ∙ refl), (corner_holds, (too_soon_holds, (just_in_time_holds, (too_short, (in_two_steps, (ends_at_first, (ends_then, (ends_at_last, (ends_without_room, tt)))))))))))))))))
+shapes_hold = (do_collide (at 0 0) East (at 1 0) West refl, (no_collision (at 0 0) East (at 1 0) East refl, (do_collide (at 0 0) East (at 1 0) South refl, (refl, (refl, (refl, (refl, ((places_are Lower ∙ refl, places_are Upper ∙ refl), tt))))))))
+
+routes_hold : AllByRecursion Holds routes
+unfolding sequences next
+routes_hold = ((refl, refl, refl), ((refl, refl, refl), ((refl, refl, refl), tt)))
+
+searches_hold : AllByRecursion Holds searches
+unfolding collides_in overlaps_in is_step next some_within in_row stands_at goes meets_at in_set joined first_below all_below total gather least settled cost sum allows obeys constraints_on walks passes first_choice scan first_conflict first_constraint second_constraint routes_under make_node root cheapest bound expand turn_on turn_at turn turns routes_at
+searches_hold = ((refl, refl, refl), ((refl, refl, refl), ((refl, refl, refl), ((refl, refl, refl), ((refl, refl, refl), ((refl, refl, refl), ((refl, refl, refl), ((refl, refl, refl), ((refl, refl, refl), tt)))))))))
+
+both_hold : (xs ys : List Trial) → AllByRecursion Holds xs → AllByRecursion Holds ys → AllByRecursion Holds (xs ++ ys)
+both_hold [] ys p q = q
+both_hold (x ∷ xs) ys p q = (p.0, both_hold xs ys p.1 q)
+
+pub shown : AllByRecursion Holds trials
+shown = both_hold shapes (routes ++ searches) shapes_hold (both_hold routes searches routes_hold searches_hold)

@@ -1,7 +1,8 @@
 -- Worked examples of the definitions, in one table.
-use Rattle.std.specs.Prelude.{◌≡◌, ℕ, zero, suc, ◌+◌, Bool, true, false, cond, List, [], ◌∷◌, map, length, replicate, pos, ◌-ℤ◌, Some, None, MatchBool, filter, Option, slice_index_or, refl}
+use Rattle.std.specs.Prelude.{◌≡◌, ℕ, zero, suc, ◌+◌, Bool, true, false, cond, List, [], ◌∷◌, ◌++◌, map, length, replicate, pos, ◌-ℤ◌, Some, None, MatchBool, filter, Option, slice_index_or, refl}
 use Rattle.std.proofs.Common.{lit≤}
 use Rattle.std.specs.List.{range_with_len}
+use Rattle.std.specs.Option.{option_map}
 use Rattle.fault.specs.declared.cause.Fault.{Fault}
 use Rattle.fault.specs.declared.cause.Cause.TheVariants.{OffsetTooFar}
 use Rattle.fault.specs.Causes.{fault_at}
@@ -20,8 +21,11 @@ use Rattle.split.specs.declared.pair.Side.{Side}
 use Rattle.split.specs.declared.pair.Side.TheVariants.{Lower, Upper}
 use Rattle.split.specs.Situations.{Situation}
 use Rattle.split.specs.Rules.{single_sets, shared_cell_sets}
-use Rattle.walk.specs.Examples.{Example, corner, too_soon, just_in_time, Holds as RouteHolds}
-use Rattle.tree.specs.Tree.{Tree, Verdict, working, solved, none, full, turns, bound}
+use Rattle.walk.specs.Routes.{chosen, cheapest_routes, route_cost}
+use Rattle.walk.specs.Sleds.{both_ends, open_floor}
+use Rattle.tree.specs.Calls.{routes_at}
+use Rattle.tree.specs.Plans.{Plan}
+use Rattle.tree.specs.Tree.{Node, Tree, Verdict, working, solved, none, full, turns, bound}
 use Rattle.plans.specs.Tasks.{Task}
 use Rattle.plans.specs.Instance.{setting_of, search_of}
 
@@ -46,25 +50,35 @@ two_at w h u v = record { count = 2; sleds = λ _. rectangle w h; i = 0; j = 1; 
 abbrev pub places_of : Situation → Side → List ℕ
 places_of s side = filter (λ n. shared_cell_sets s side (position_at n)) (range_with_len 0 256)
 
--- an aisle of three free cells
+-- floors of free cells only: three in a row, and four in a square
 abbrev pub aisle : Floor
 aisle = record { columns = 3; rows = 1; cells = replicate 256 Free; wide = lit≤ tt; narrow = lit≤ tt; tall = lit≤ tt; short = lit≤ tt; whole = refl }
 
--- sleds of one cell in the aisle, with these starts and goals
-abbrev pub in_aisle : (horizon : ℕ) (starts goals : List Position) → Task
-in_aisle horizon starts goals =
+abbrev pub square : Floor
+square = record { columns = 2; rows = 2; cells = replicate 256 Free; wide = lit≤ tt; narrow = lit≤ tt; tall = lit≤ tt; short = lit≤ tt; whole = refl }
+
+-- sleds of one cell on a floor, with these starts and goals
+abbrev pub task_on : Floor → (horizon : ℕ) (starts goals : List Position) → Task
+task_on floor horizon starts goals =
     record {
       sleds = length starts;
       horizon = horizon;
       start = λ s. slice_index_or starts s (at 0 0);
       goal = λ s. slice_index_or goals s (at 0 0);
-      floor = aisle;
+      floor = floor;
       offsets = sleds_of (λ _. rectangle 1 1) starts;
     }
 
 -- the tree of a task under the single rule after some turns
 abbrev pub tree_after : Task → (limit n : ℕ) → Tree
 tree_after K limit n = turns (search_of K single_sets) limit n
+
+-- the routes of the node that solves the tree, if one does
+abbrev pub routes_found : List Node → Verdict → Plan
+routes_found nodes working = []
+routes_found nodes (solved k) = routes_at nodes k
+routes_found nodes none = []
+routes_found nodes full = []
 
 pub data Trial : Type 0 where
   -- two sleds of one cell: one moves by a from u, one by b from v, and whether they collide
@@ -73,12 +87,12 @@ pub data Trial : Type 0 where
   skirted : (width height m count : ℕ) → Trial
   -- a rectangle is given a skirt of m, or it is refused for a fault
   given : (width height m : ℕ) (fault : Option Fault) → Trial
-  -- two equal rectangles at u and v: the places of the first and of the second shared-cell set, by number
+  -- two equal rectangles at u and v: the places of the first and of the second shared-cell set
   shared : (width height : ℕ) (u v : Position) (first second : List Position) → Trial
-  -- a sled alone on an open floor: its first route of least cost, what that costs, and how many routes cost as little
-  alone : Example → Trial
-  -- sleds in the aisle, a node limit and a number of turns: the bound and the verdict then
-  searched : (horizon : ℕ) (starts goals : List Position) (limit turns : ℕ) (bound : Option ℕ) (verdict : Verdict) → Trial
+  -- a sled of one cell alone on a floor of free cells: its first route of least cost behind the start, what that costs, and how many routes cost as little
+  alone : (columns rows horizon : ℕ) (start goal : Position) (route : Option (List Position)) (cost : Option ℕ) (routes : ℕ) → Trial
+  -- sleds of one cell, a node limit and a number of turns: the bound and the verdict then, and the sleds' routes if they are found
+  searched : (floor : Floor) (horizon : ℕ) (starts goals : List Position) (limit turns : ℕ) (bound : Option ℕ) (verdict : Verdict) (routes : List (List Position)) → Trial
 
 -- what a trial says
 abbrev pub Holds : Trial → Type 0
@@ -88,17 +102,22 @@ Holds (skirted w h m count) = count_rows (skirt m (rectangle w h)) 15 ≡ count
 Holds (given w h m fault) = skirt_fault 1 (λ _. rectangle w h) 0 m ≡ fault
 Holds (shared w h u v first second) =
     (places_of (two_at w h u v) Lower ≡ map number_of first) × (places_of (two_at w h u v) Upper ≡ map number_of second)
-Holds (alone example) = RouteHolds example
-Holds (searched horizon starts goals limit n bound' verdict) =
-    let K = in_aisle horizon starts goals in
-    (bound (setting_of K) (tree_after K limit n) ≡ bound') × ((tree_after K limit n).verdict ≡ verdict)
+Holds (alone columns rows horizon start goal route cost routes) =
+    let p = number_of start in
+    let q = number_of goal in
+    let step = both_ends (open_floor columns rows) in
+    (chosen step horizon p q ≡ option_map (map number_of) route) ×
+    (option_map (λ r. route_cost q p (map number_of r)) route ≡ cost) ×
+    (length (cheapest_routes step horizon p q) ≡ routes)
+Holds (searched floor horizon starts goals limit n bound' verdict routes) =
+    let K = task_on floor horizon starts goals in
+    let tree = tree_after K limit n in
+    (bound (setting_of K) tree ≡ bound') × (tree.verdict ≡ verdict) ×
+    (routes_found tree.nodes tree.verdict ≡ map (map number_of) routes)
 
-abbrev pub AllHold : List Trial → Type 0
-AllHold [] = Unit {0}
-AllHold (t ∷ rest) = Holds t × AllHold rest
-
-abbrev pub trials : List Trial
-trials =
+-- sleds that meet, skirts, and sets of a rule
+abbrev pub shapes : List Trial
+shapes =
     moving (at 0 0) East (at 1 0) West true
     ∷ moving (at 0 0) East (at 1 0) East false
     ∷ moving (at 0 0) East (at 1 0) South true
@@ -107,13 +126,29 @@ trials =
     ∷ given 8 1 1 (Some (fault_at OffsetTooFar 0))
     ∷ given 1 8 1 (Some (fault_at OffsetTooFar 0))
     ∷ shared 2 2 (at 0 0) (at 1 1) (at 0 0 ∷ at 1 0 ∷ at 0 1 ∷ at 1 1 ∷ []) (at 0 0 ∷ at 1 0 ∷ at 0 1 ∷ at 1 1 ∷ [])
-    ∷ alone corner
-    ∷ alone too_soon
-    ∷ alone just_in_time
-    ∷ searched 1 (at 0 0 ∷ []) (at 2 0 ∷ []) 3 1 None none
-    ∷ searched 2 (at 0 0 ∷ []) (at 2 0 ∷ []) 3 1 (Some 2) (solved 0)
-    ∷ searched 2 (at 0 0 ∷ at 2 0 ∷ []) (at 2 0 ∷ at 0 0 ∷ []) 3 0 (Some 4) working
-    ∷ searched 2 (at 0 0 ∷ at 2 0 ∷ []) (at 2 0 ∷ at 0 0 ∷ []) 3 1 None working
-    ∷ searched 2 (at 0 0 ∷ at 2 0 ∷ []) (at 2 0 ∷ at 0 0 ∷ []) 3 2 None none
-    ∷ searched 2 (at 0 0 ∷ at 2 0 ∷ []) (at 2 0 ∷ at 0 0 ∷ []) 2 1 (Some 4) full
     ∷ []
+
+abbrev pub routes : List Trial
+routes =
+    alone 2 2 2 (at 0 0) (at 1 1) (Some (at 1 0 ∷ at 1 1 ∷ [])) (Some 2) 2
+    ∷ alone 3 1 1 (at 0 0) (at 2 0) None None 0
+    ∷ alone 3 1 2 (at 0 0) (at 2 0) (Some (at 1 0 ∷ at 2 0 ∷ [])) (Some 2) 1
+    ∷ []
+
+-- one sled with too few steps and with enough; two that change ends; one that crosses a square; two that change its corners
+abbrev pub searches : List Trial
+searches =
+    searched aisle 1 (at 0 0 ∷ []) (at 2 0 ∷ []) 3 1 None none []
+    ∷ searched aisle 2 (at 0 0 ∷ []) (at 2 0 ∷ []) 3 1 (Some 2) (solved 0) ((at 0 0 ∷ at 1 0 ∷ at 2 0 ∷ []) ∷ [])
+    ∷ searched aisle 2 (at 0 0 ∷ at 2 0 ∷ []) (at 2 0 ∷ at 0 0 ∷ []) 3 0 (Some 4) working []
+    ∷ searched aisle 2 (at 0 0 ∷ at 2 0 ∷ []) (at 2 0 ∷ at 0 0 ∷ []) 3 1 None working []
+    ∷ searched aisle 2 (at 0 0 ∷ at 2 0 ∷ []) (at 2 0 ∷ at 0 0 ∷ []) 3 2 None none []
+    ∷ searched aisle 2 (at 0 0 ∷ at 2 0 ∷ []) (at 2 0 ∷ at 0 0 ∷ []) 2 1 (Some 4) full []
+    ∷ searched square 2 (at 1 0 ∷ []) (at 0 1 ∷ []) 3 1 (Some 2) (solved 0) ((at 1 0 ∷ at 0 0 ∷ at 0 1 ∷ []) ∷ [])
+    ∷ searched square 2 (at 0 0 ∷ at 1 1 ∷ []) (at 1 1 ∷ at 0 0 ∷ []) 3 1 (Some 4) working []
+    ∷ searched square 2 (at 0 0 ∷ at 1 1 ∷ []) (at 1 1 ∷ at 0 0 ∷ []) 3 2 (Some 4) (solved 1)
+      ((at 0 0 ∷ at 0 1 ∷ at 1 1 ∷ []) ∷ (at 1 1 ∷ at 1 0 ∷ at 0 0 ∷ []) ∷ [])
+    ∷ []
+
+abbrev pub trials : List Trial
+trials = shapes ++ routes ++ searches

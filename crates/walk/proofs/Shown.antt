@@ -1,27 +1,12 @@
--- Worked examples, costs, and the routes of a sled.
+-- Costs, and the routes of a sled.
 use Rattle.std.proofs.Common.{◌≡◌, ℕ, zero, suc, ◌+◌, ◌-◌, ◌<◌, ◌≤◌, Bool, true, ◌&&◌, eqb, List, [], ◌∷◌, length, get_or, drop, sym, refl, ap, ◌∙◌, arith}
 use Rattle.std.specs.List.{AllByRecursion}
 use Rattle.std.proofs.lemmas.List.{length-drop, get_or-drop}
 use Rattle.std.proofs.lemmas.Bool.{and_parts, and_from, eqb-true, eq-eqb}
-use Rattle.grid.specs.Board.{next}
-use Rattle.walk.specs.Examples.{Holds, corner, too_soon, just_in_time}
 use Rattle.walk.specs.Plain.{CostIsLeast}
 use Rattle.walk.specs.Routes.{passes, settled, cost}
-use Rattle.walk.specs.Sequences.{sequences}
 use Rattle.walk.specs.Sleds.{both_ends, RoutesAreSledRoutes}
 use Rattle.walk.proofs.Least.{cost_settled, settled_cost}
-
-pub corner_holds : Holds corner
-unfolding sequences next
-corner_holds = record { first = refl; price = refl; number = refl }
-
-pub too_soon_holds : Holds too_soon
-unfolding sequences next
-too_soon_holds = record { first = refl; price = refl; number = refl }
-
-pub just_in_time_holds : Holds just_in_time
-unfolding sequences next
-just_in_time_holds = record { first = refl; price = refl; number = refl }
 
 -- a sequence of allowed steps stands at each of its places
 passes_stands : (may : ℕ → Bool) (t p q : ℕ) (s : List ℕ) → passes (both_ends may) t p (q ∷ s) ≡ true → AllByRecursion (λ r. may r ≡ true) (p ∷ q ∷ s)

@@ -6,5 +6,4 @@ pub mod Plain
 pub mod Sleds
 pub mod Promises
 pub mod Workings
-pub mod Examples
 pub mod Laws

@@ -1,8 +1,12 @@
 -- The steps of one sled on a floor, by the places where it may stand.
-use Rattle.std.specs.Prelude.{◌≡◌, ℕ, ◌≤◌, Bool, true, false, ◌&&◌, List, ◌∷◌, length, slice_index_or}
+use Rattle.std.specs.Prelude.{◌≡◌, ℕ, ◌≤◌, ◌/◌, ◌%◌, Bool, true, false, ◌&&◌, List, ◌∷◌, length, nat_lt, slice_index_or}
 use Rattle.std.specs.List.{AllByRecursion}
 use Rattle.walk.specs.Plain.{Stepwise, Route}
 use Rattle.walk.specs.Sequences.{end}
+
+-- the places of a floor with so many columns and rows
+abbrev pub open_floor : ℕ → ℕ → ℕ → Bool
+open_floor columns rows p = nat_lt (p % 16) columns && nat_lt (p / 16) rows
 
 -- whether the sled may stand at place p, by a table of answers
 abbrev pub stands : List Bool → ℕ → Bool

@@ -1,7 +1,6 @@
 // The steps of one sled on a floor.
 ghost use Rattle.std.specs.Prelude.{◌≡◌, ℕ, ◌<◌};
-ghost use Rattle.walk.specs.Examples.{open_floor};
-ghost use Rattle.walk.specs.Sleds.{stands, both_ends};
+ghost use Rattle.walk.specs.Sleds.{open_floor, stands, both_ends};
 
 use crate::weight::{Step, Steps};
 use grid::place::{BOARD_PLACES, Place};

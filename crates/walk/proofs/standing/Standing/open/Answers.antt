@@ -1,5 +1,5 @@
 use Rattle.std.proofs.Common.{false, rules, tests}
-use Rattle.walk.specs.Examples.{open_floor}
+use Rattle.walk.specs.Sleds.{open_floor}
 use Rattle.grid.proofs.Made.{made}
 use Rattle.walk.proofs.standing.Standing.open.Goals as goal
 
