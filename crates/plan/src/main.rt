@@ -1,6 +1,6 @@
 // Reads a job file from standard input and prints the cheapest collision-free plan, or that there is none, or that the table of
-// nodes is full, or the refusal. With the argument --drive it then drives the plan on a deck; with --check it prints the job and what
-// each sled could do alone.
+// nodes is full, or the refusal. With the argument --check it first prints the job and what each sled could do alone; with --drive it then
+// drives the plan on a deck.
 #![tactic(auto)]
 
 use crate::drive::drive;
@@ -21,47 +21,25 @@ mod drive;
 mod printed;
 mod show;
 
-// What is to be done with a job.
-#[derive(Clone, Copy)]
-enum Mode {
-    Plan,
-    Drive,
-    Check,
-}
-
-impl Mode {
-    // The mode that an argument names.
-    fn named(word: &str) -> Option<Mode> {
-        match word {
-            "--drive" => Some(Mode::Drive),
-            "--check" => Some(Mode::Check),
-            _ => None,
-        }
-    }
-}
-
 fn main(rt: HostRuntime) -> anyhow::Result<()> {
-    let mode = env::args(&rt)?
-        .find_map(|word| Mode::named(word.as_str()))
-        .unwrap_or(Mode::Plan);
     let mut file = Vec::new(rt.alloc());
     rt.stdin().read_to_end(&mut file)?;
     let mut job = Job::new();
     job.read(file.as_slice())
         .map_err(|fault| refused(&rt, fault))?;
-    match mode {
-        Mode::Plan => {
-            plan(&rt, &job)?;
-        }
-        Mode::Drive => {
-            let search = plan(&rt, &job)?;
-            if search.verdict() == Verdict::Solved {
-                drive(&rt, &search, job.sleds().len())?;
-            }
-        }
-        Mode::Check => check(&rt, &job)?,
+    if is_asked(&rt, "--check")? {
+        check(&rt, &job)?;
+    }
+    let search = plan(&rt, &job)?;
+    if is_asked(&rt, "--drive")? && search.verdict() == Verdict::Solved {
+        drive(&rt, &search, job.sleds().len())?;
     }
     Ok(())
+}
+
+// Whether the word is among the arguments.
+fn is_asked(rt: &HostRuntime, word: &str) -> anyhow::Result<bool> {
+    Ok(env::args(rt)?.any(|argument| argument.as_str() == word))
 }
 
 // The joint plan: the job is opened, searched to its end, and told.

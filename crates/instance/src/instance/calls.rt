@@ -1,35 +1,17 @@
 // Making an instance.
-ghost use Rattle.std.specs.Prelude.{◌≡◌, MatchResult};
-ghost use Rattle.instance.specs.Instances.{task_in, Admitted, TurnedAway};
+ghost use Rattle.std.specs.Prelude.{MatchResult};
+ghost use Rattle.instance.specs.Instances.{Admitted, TurnedAway};
 
 use crate::ends::{ends_of, first_stuck};
 use crate::instance::Instance;
 use crate::pairs::pairs_of;
 use crate::standings::standings_of;
 use fault::cause::{Cause, Fault};
-use fleet::rectangles::Rectangles;
-use fleet::{Fleet, MAX_SLEDS};
+use fleet::Fleet;
 use job::job::Job;
 use tables::tabled::Tabled;
 
 impl Instance {
-    // No sleds: nothing to plan.
-    pub fn none() -> Instance
-        ensures { (task_in result).sleds ≡ 0 }
-    {
-        let job = Job::new();
-        let floor = job.floor();
-        let fleet = Tabled::of(&Rectangles::new());
-        Instance {
-            horizon: job.span(),
-            ends: [None; MAX_SLEDS],
-            floor,
-            fleet,
-            standing: standings_of(&fleet, &floor),
-            pairs: pairs_of(&fleet),
-        }
-    }
-
     // What a job asks of a fleet, which has to have as many sleds, each of which may stand at its start and at its goal.
     pub fn of<F: Fleet>(job: &Job, fleet: &F) -> Result<Instance, Fault>
         ensures { MatchResult result (Admitted job.now (F.Fleet.size fleet.now) (F.Fleet.offsets fleet.now)) (TurnedAway job.now (F.Fleet.size fleet.now) (F.Fleet.offsets fleet.now)) }
