@@ -1,5 +1,5 @@
 -- A turn, by what the engine found.
-use Rattle.std.proofs.Common.{◌≡◌, ℕ, ◌+◌, ◌<◌, ◌≤◌, true, false, ltb, List, [], length, get_or, Some, None, vec_items, Option, sym, refl, ap, ◌∙◌, subst, arith}
+use Rattle.std.proofs.Common.{◌≡◌, ℕ, ◌+◌, ◌<◌, ◌≤◌, ◌≢◌, false, ltb, List, [], length, get_or, Some, None, vec_items, Option, sym, refl, ap, ◌∙◌, subst, arith}
 use Rattle.std.proofs.lemmas.Bool.{lt-ltb, le-ltb, cond-true, cond-false}
 use Rattle.std.specs.Option.{option_map, option_to_list}
 use Rattle.tree.specs.Lists.{to_list}
@@ -77,15 +77,16 @@ module _ (m : Model) (limit : ℕ) (table : List Node) (t : tree.Tree) (f : Foll
           let more = le-ltb limit (length t.nodes + 2) (omega (arith, f.tracks.size)) in
           subst (Follows m after Working) (sym (conflict_turn (Some (conflict_of c)) e ∙ cond-false (ltb limit (length t.nodes + 2)) (tree.tree_of t.nodes tree.full) (tree.tree_of (tree.expand P t.nodes (found_of t.nodes k) (conflict_of c)) tree.working) more)) (record { tracks = g; verdict_is = refl })
 
--- an engine that has ended stays where it is
-pub engine_rests : (m : Model) (e : Engine) → tree.is_working (verdict_of e.verdict) ≡ false → Goes m e e (tree.turn (search_of m) e.limit)
-engine_rests m e over = record { goes = λ t f. subst (Follows m (vec_items e.table.nodes) e.verdict) (sym (rests (search_of m) e.limit t (ap tree.is_working f.verdict_is ∙ over))) f; same_limit = refl }
+over : (v : Verdict) → v ≢ Working → tree.is_working (verdict_of v) ≡ false
+over Working h = absurd (h refl)
+over (Solved k) h = refl
+over Unsolvable h = refl
+over Full h = refl
 
-pub is_working : (v : Verdict) → tree.is_working (verdict_of v) ≡ true → v ≡ Working
-is_working Working h = refl
-is_working (Solved k) h = cc
-is_working Unsolvable h = cc
-is_working Full h = cc
+-- an engine that has ended stays where it is
+pub engine_rests : (m : Model) (e : Engine) → e.verdict ≢ Working → Goes m e e (tree.turn (search_of m) e.limit)
+engine_rests m e h =
+    record { goes = λ t f. subst (Follows m (vec_items e.table.nodes) e.verdict) (sym (rests (search_of m) e.limit t (ap tree.is_working f.verdict_is ∙ over e.verdict h))) f; same_limit = refl }
 
 -- the engine begins where the theory does
 pub root_tracks : (m : Model) (limit : ℕ) (r : Option Node) → ((above : List constraints.SledConstraint) (k : ℕ) → MadeAs m above k r (tree.make_node (search_of m) 0 [])) → Follows m (option_to_list r) Working (tree.turns (search_of m) limit 0)

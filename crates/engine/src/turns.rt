@@ -43,21 +43,18 @@ impl Engine {
     fn turn<P: Problem>(&mut self, problem: &P)
         ensures { Goes (P.Problem.model problem.now) self.old self.new (tree.turn (search_of (P.Problem.model problem.now)) self.old.limit) }
     {
-        if !self.is_working() {
-            return;
-        }
-        let Some(number) = self.table.cheapest() else {
-            self.verdict = Verdict::Unsolvable;
-            return;
-        };
-        let Some(conflict) = first_conflict(problem, &self.table.node(number).routes) else {
-            self.verdict = Verdict::Solved(number);
-            return;
-        };
-        if self.table.len() + 2 > self.limit as usize {
-            self.verdict = Verdict::Full;
-        } else {
-            self.table.expand(problem, number, conflict);
+        match (self.verdict, self.table.cheapest()) {
+            (Verdict::Working, Some(number)) => {
+                match first_conflict(problem, &self.table.node(number).routes) {
+                    None => self.verdict = Verdict::Solved(number),
+                    Some(_) if self.table.len() + 2 > self.limit as usize => {
+                        self.verdict = Verdict::Full;
+                    }
+                    Some(conflict) => self.table.expand(problem, number, conflict),
+                }
+            }
+            (Verdict::Working, None) => self.verdict = Verdict::Unsolvable,
+            _ => {}
         }
     }
 

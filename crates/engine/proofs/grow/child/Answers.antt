@@ -1,6 +1,5 @@
-use Rattle.std.proofs.Common.{◌≡◌, ℕ, ◌<◌, ◌∷◌, length, get_or, set, None, Some, Option, sym, refl, ap, ◌∙◌, subst, arith}
+use Rattle.std.proofs.Common.{◌<◌, ◌∷◌, length, get_or, set, Some, Option, refl, ap, ◌∙◌, arith}
 use Rattle.engine.specs.declared.node.Node.{Node}
-use Rattle.engine.specs.WellFormed.{MadeWellFormed}
 use Rattle.tree.specs.Constraints as constraints
 use Rattle.tree.specs.Plans.{Plan}
 use Rattle.engine.specs.Table.{plan_of, sled_constraint_of, blank}

@@ -1,6 +1,4 @@
-use Rattle.std.proofs.Common.{◌≡◌, ℕ, [], None, Option, sym, refl, subst}
-use Rattle.engine.specs.declared.node.Node.{Node}
-use Rattle.engine.specs.WellFormed.{MadeWellFormed}
+use Rattle.std.proofs.Common.{[], refl}
 use Rattle.std.proofs.lemmas.Bool.{false≢true}
 use Rattle.engine.proofs.Growing.{made_none, made_some, none_made}
 use Rattle.engine.proofs.grow.root.Goals as goal
