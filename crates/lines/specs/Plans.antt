@@ -1,6 +1,6 @@
 -- The lines that tell how a search ended.
-use Rattle.std.specs.Prelude.{ℕ, ◌/◌, ◌%◌, List, ◌++◌, codes, decimal}
-use Rattle.std.specs.List.{flat_map}
+use Rattle.std.specs.Prelude.{ℕ, ◌/◌, ◌%◌, List, ◌++◌, map, codes, decimal}
+use Rattle.std.specs.List.{join_with_byte}
 use Rattle.lines.specs.declared.outcome.Outcome.{Outcome}
 use Rattle.lines.specs.declared.outcome.Outcome.TheVariants.{Solved, NoPlan, Full}
 
@@ -18,14 +18,14 @@ outcome_line (Solved sum) turns = words_of (codes "solved ") sum turns
 outcome_line NoPlan turns = ending_of (codes "none ") turns
 outcome_line (Full bound) turns = words_of (codes "full ") bound turns
 
--- a blank, the column, a comma and the row of a place number
+-- the column, a comma and the row of a place number
 unfoldable pub place_text : (place : ℕ) → List ℕ
-place_text place = codes " " ++ decimal (place % 16) ++ codes "," ++ decimal (place / 16)
+place_text place = decimal (place % 16) ++ codes "," ++ decimal (place / 16)
 
--- places one after the other
+-- places one after the other, parted by blanks
 abbrev pub places_text : List ℕ → List ℕ
-places_text places = flat_map place_text places
+places_text places = join_with_byte 32 (map place_text places)
 
--- the number of a sled, its place at every instant, and the end of the line
+-- the number of a sled, a blank, its place at every instant, and the end of the line
 unfoldable pub route_line : (sled : ℕ) (places : List ℕ) → List ℕ
-route_line sled places = decimal sled ++ places_text places ++ codes "\n"
+route_line sled places = decimal sled ++ codes " " ++ places_text places ++ codes "\n"

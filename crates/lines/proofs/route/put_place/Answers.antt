@@ -8,9 +8,9 @@ use Rattle.lines.proofs.route.put_place.Goals as goal
 pub returns : goal.returns
 unfolding place_text
 returns c =
-    let is : codes " " ++ decimal c.from.result ++ codes "," ++ decimal c.from-2.result ≡ place_text c.args.number = search rules in
-    let column = appends-both (appends-put c.put.ensures) (appends-put c.put_number.ensures) in
+    let is : decimal c.from.result ++ codes "," ++ decimal c.from-2.result ≡ place_text c.args.number = search rules in
+    let column = appends-put c.put_number.ensures in
     record {
-      text = subst (λ l. Appends c.args.text.now l c.put_number-2.new.self) is (appends-both (appends-both column (appends-put c.put-2.ensures)) (appends-put c.put_number-2.ensures));
+      text = subst (λ l. Appends c.args.text.now l c.put_number-2.new.self) is (appends-both (appends-both column (appends-put c.put.ensures)) (appends-put c.put_number-2.ensures));
       short = place_short c.args.number (search rules);
     }

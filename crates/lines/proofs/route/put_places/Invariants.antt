@@ -4,8 +4,8 @@ use Rattle.lines.specs.Plans.{places_text}
 use Rattle.lines.proofs.route.put_places.Given as goal
 
 -- the places so far are written
-abbrev pub invariant-loop-number : goal.invariant-loop-number
-invariant-loop-number l = record {
-  text : Appends l.initial.text (places_text (take l.number-index l.route)) l.text;
-  short : length (places_text (take l.number-index l.route)) ≤ 6 * l.number-index;
+abbrev pub invariant-loop-instant : goal.invariant-loop-instant
+invariant-loop-instant l = record {
+  text : Appends l.initial.text (places_text (take l.instant l.route)) l.text;
+  short : length (places_text (take l.instant l.route)) ≤ 6 * l.instant;
 }

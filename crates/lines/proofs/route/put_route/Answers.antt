@@ -7,6 +7,6 @@ use Rattle.lines.proofs.route.put_route.Goals as goal
 pub returns : goal.returns
 unfolding route_line
 returns c = record {
-  text = appends-both (appends-both (appends-put c.put_number.ensures) c.put_places.ensures.text) (appends-put c.put.ensures);
+  text = appends-both (appends-both (appends-both (appends-put c.put_number.ensures) (appends-put c.put.ensures)) c.put_places.ensures.text) (appends-put c.put-2.ensures);
   short = simp length-append (omega (arith, short_number c.args.sled (search rules), c.put_places.ensures.short));
 }

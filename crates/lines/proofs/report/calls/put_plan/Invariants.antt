@@ -7,5 +7,5 @@ use Rattle.lines.proofs.report.calls.put_plan.Given as goal
 abbrev pub invariant-loop-sled : goal.invariant-loop-sled
 invariant-loop-sled l = record {
   text : Appends l.initial.text (plan_lines l.report.routes.now l.report.last l.sled) l.text;
-  short : length (plan_lines l.report.routes.now l.report.last l.sled) ≤ 405 * l.sled;
+  short : length (plan_lines l.report.routes.now l.report.last l.sled) ≤ 406 * l.sled;
 }
