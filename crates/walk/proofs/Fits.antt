@@ -1,5 +1,6 @@
 -- The weight of the sequences that reach a goal and keep it, for every kind of weight.
 use Rattle.std.proofs.Common.{◌≡◌, ℕ, zero, suc, ◌+◌, ◌<◌, Bool, true, false, cond, ◌&&◌, eqb, List, ◌∷◌, map, drop, sym, refl, ap, ◌∙◌, ap₂, ⊎_elim, add-zero, arith}
+use Rattle.std.proofs.Math.Bool.{and_assoc}
 use Rattle.std.proofs.lemmas.Bool.{cases_Bool, eqb-true}
 use Rattle.grid.specs.Board.{next}
 use Rattle.walk.specs.Semiring.{Ops, Laws, summed}
@@ -9,10 +10,6 @@ use Rattle.walk.specs.Workings.{waits, allowance}
 use Rattle.walk.proofs.Adding.{more}
 use Rattle.walk.proofs.Sums.{summed_same, summed_map, summed_joined, mul_summed, summed_mul, add_nought_right}
 use Rattle.walk.proofs.Totals.{total_zero, total_first, stay_step}
-
-and_assoc : (x y z : Bool) → ((x && y) && z) ≡ (x && (y && z))
-and_assoc true y z = refl
-and_assoc false y z = refl
 
 -- (x and y) and (u and v), the other way
 and_cross : (x y u v : Bool) → ((x && y) && (u && v)) ≡ ((u && x) && (y && v))

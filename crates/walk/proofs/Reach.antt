@@ -15,12 +15,6 @@ use Rattle.walk.proofs.Firsts.{first_map, first_joined, first_passes, first_some
 use Rattle.walk.proofs.Fits.{fits, fits_more, fits_here, fitting_weight, wait_weight, reach_weight}
 use Rattle.walk.proofs.Sums.{summed_same, summed_map, summed_joined, mul_summed}
 
-pub and_comm : (x y : Bool) → (x && y) ≡ (y && x)
-and_comm true true = refl
-and_comm true false = refl
-and_comm false true = refl
-and_comm false false = refl
-
 pub cond_same : (b : Bool) → cond b true false ≡ b
 cond_same true = refl
 cond_same false = refl

@@ -5,7 +5,7 @@ use Rattle.walk.proofs.Firsts.{cases_none}
 use Rattle.walk.specs.Laws.{either_both_laws}
 use Rattle.walk.proofs.Least.{no_route, least_route, least_cost}
 use Rattle.walk.proofs.Plainly.{none_best, some_best}
-use Rattle.walk.proofs.Reach.{and_comm}
+use Rattle.std.proofs.Math.Bool.{and_comm}
 use Rattle.walk.proofs.Turned.{total_turned}
 use Rattle.walk.proofs.route.first_route.Goals as goal
 
