@@ -3,83 +3,21 @@
 // drives the plan on a deck.
 #![tactic(auto)]
 
-use crate::drive::drive;
-use anyhow::{anyhow, bail};
-use fault::cause::Fault;
-use fault::refusal::{LINES_BUFFER, write_refusal};
-use job::job::Job;
-use search::Search;
-use search::call::{Call, RunError};
-use search::verdict::Verdict;
-use split::shared_cell::SharedCell;
-use standard::{JobFleet, fleet_of};
+use hatch::{Asked, answer};
 use std::env;
-use std::io::{Read, Write};
-
-mod alone;
-mod drive;
-mod printed;
-mod show;
+use std::io::Read;
 
 fn main(rt: HostRuntime) -> anyhow::Result<()> {
     let mut file = Vec::new(rt.alloc());
     rt.stdin().read_to_end(&mut file)?;
-    let mut job = Job::new();
-    job.read(file.as_slice())
-        .map_err(|fault| refused(&rt, fault))?;
-    if is_asked(&rt, "--check")? {
-        check(&rt, &job)?;
-    }
-    let search = plan(&rt, &job)?;
-    if is_asked(&rt, "--drive")? && search.verdict() == Verdict::Solved {
-        drive(&rt, &search, job.sleds().len())?;
-    }
-    Ok(())
+    let asked = Asked {
+        check: is_asked(&rt, "--check")?,
+        drive: is_asked(&rt, "--drive")?,
+    };
+    answer(&rt, asked, file.as_slice())
 }
 
 // Whether the word is among the arguments.
 fn is_asked(rt: &HostRuntime, word: &str) -> anyhow::Result<bool> {
     Ok(env::args(rt)?.any(|argument| argument.as_str() == word))
-}
-
-// The joint plan: the job is opened, searched to its end, and told.
-fn plan(rt: &HostRuntime, job: &Job) -> anyhow::Result<Search<JobFleet, SharedCell>> {
-    let mut search = Search::new(rt.alloc(), fleet_of(job), SharedCell)?;
-    let whole = [Call::Advance(u32::from(job.limit()) + 1)];
-    match search.run(rt.alloc(), job, &whole) {
-        Ok(_) => {}
-        Err(RunError::Refused(fault)) => return Err(refused(rt, fault)),
-        Err(RunError::NoMemory) => bail!("there is no memory for the answers"),
-    }
-    let mut lines = [0; LINES_BUFFER];
-    let length = search
-        .print(&mut lines)
-        .map_err(|fault| refused(rt, fault))?;
-    put(rt, &lines[..length.min(LINES_BUFFER)])?;
-    Ok(search)
-}
-
-// The job, where its sleds stand, and the route of each as if the others were not there.
-fn check(rt: &HostRuntime, job: &Job) -> anyhow::Result<()> {
-    show::show_job(rt, job)?;
-    let fleet = fleet_of(job);
-    alone::show_standing(rt, job, &fleet)?;
-    alone::show_routes(rt, job, &fleet)
-}
-
-// Puts the refusal's line on standard output, and gives an error for the status.
-fn refused(rt: &HostRuntime, fault: Fault) -> anyhow::Error {
-    let mut lines = [0; LINES_BUFFER];
-    if let Ok(length) = write_refusal(fault, &mut lines)
-        && let Err(error) = put(rt, &lines[..length.min(LINES_BUFFER)])
-    {
-        return error;
-    }
-    anyhow!("refused")
-}
-
-// The lines on standard output.
-fn put(rt: &HostRuntime, lines: &[u8]) -> anyhow::Result<()> {
-    rt.stdout().write_all(lines)?;
-    Ok(())
 }

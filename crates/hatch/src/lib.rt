@@ -1,0 +1,82 @@
+// What is done at the hatch with a job file: the plan, and what may be asked besides.
+#![tactic(auto)]
+
+use crate::drive::drive;
+use anyhow::{anyhow, bail};
+use fault::cause::Fault;
+use fault::refusal::{LINES_BUFFER, write_refusal};
+use job::job::Job;
+use search::Search;
+use search::call::{Call, RunError};
+use search::verdict::Verdict;
+use split::shared_cell::SharedCell;
+use standard::{JobFleet, fleet_of};
+use std::io::Write;
+
+mod alone;
+mod drive;
+mod printed;
+mod show;
+
+// What is asked besides the plan: to print the job and what each sled could do alone, first; to drive the plan on a deck, then.
+#[derive(Clone, Copy)]
+pub struct Asked {
+    pub check: bool,
+    pub drive: bool,
+}
+
+// Prints what is asked of a job file on standard output. A refusal's line is printed as well, and is an error.
+pub fn answer(rt: &HostRuntime, asked: Asked, file: &[u8]) -> anyhow::Result<()> {
+    let mut job = Job::new();
+    job.read(file).map_err(|fault| refused(rt, fault))?;
+    if asked.check {
+        check(rt, &job)?;
+    }
+    let search = plan(rt, &job)?;
+    if asked.drive && search.verdict() == Verdict::Solved {
+        drive(rt, &search, job.sleds().len())?;
+    }
+    Ok(())
+}
+
+// The joint plan: the job is opened, searched to its end, and told.
+fn plan(rt: &HostRuntime, job: &Job) -> anyhow::Result<Search<JobFleet, SharedCell>> {
+    let mut search = Search::new(rt.alloc(), fleet_of(job), SharedCell)?;
+    let whole = [Call::Advance(u32::from(job.limit()) + 1)];
+    match search.run(rt.alloc(), job, &whole) {
+        Ok(_) => {}
+        Err(RunError::Refused(fault)) => return Err(refused(rt, fault)),
+        Err(RunError::NoMemory) => bail!("there is no memory for the answers"),
+    }
+    let mut lines = [0; LINES_BUFFER];
+    let length = search
+        .print(&mut lines)
+        .map_err(|fault| refused(rt, fault))?;
+    put(rt, &lines[..length.min(LINES_BUFFER)])?;
+    Ok(search)
+}
+
+// The job, where its sleds stand, and the route of each as if the others were not there.
+fn check(rt: &HostRuntime, job: &Job) -> anyhow::Result<()> {
+    show::show_job(rt, job)?;
+    let fleet = fleet_of(job);
+    alone::show_standing(rt, job, &fleet)?;
+    alone::show_routes(rt, job, &fleet)
+}
+
+// Puts the refusal's line on standard output, and gives an error for the status.
+fn refused(rt: &HostRuntime, fault: Fault) -> anyhow::Error {
+    let mut lines = [0; LINES_BUFFER];
+    if let Ok(length) = write_refusal(fault, &mut lines)
+        && let Err(error) = put(rt, &lines[..length.min(LINES_BUFFER)])
+    {
+        return error;
+    }
+    anyhow!("refused")
+}
+
+// The lines on standard output.
+fn put(rt: &HostRuntime, lines: &[u8]) -> anyhow::Result<()> {
+    rt.stdout().write_all(lines)?;
+    Ok(())
+}
