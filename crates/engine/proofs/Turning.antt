@@ -1,5 +1,5 @@
 -- A turn, by what the engine found.
-use Rattle.std.proofs.Common.{◌≡◌, ℕ, ◌+◌, ◌<◌, ◌≤◌, ◌≢◌, false, ltb, List, [], length, get_or, Some, None, vec_items, Option, sym, refl, ap, ◌∙◌, subst, arith}
+use Rattle.std.proofs.Common.{◌≡◌, ℕ, ◌+◌, ◌<◌, ◌≤◌, ◌≢◌, false, ltb, List, [], length, get_or, Some, None, vec_items, vec_len, Option, sym, refl, ap, ◌∙◌, subst, arith}
 use Rattle.std.proofs.lemmas.Bool.{lt-ltb, le-ltb, cond-true, cond-false}
 use Rattle.std.specs.Option.{option_map, option_to_list}
 use Rattle.tree.specs.Lists.{to_list}
@@ -28,7 +28,7 @@ first_real : (S : Setting) (p : Plan) (c : conflicts.Conflict) → IsFirst S p (
 first_real S p (conflicts.meeting t i j) h = h.0
 first_real S p (conflicts.collision t i j) h = h.0
 
-pub real_conflict : (S : Setting) (p : Plan) (c : Conflict) → Some (conflict_of c) ≡ conflicts.first_conflict S p → conflicts.HasConflict S p (conflict_of c)
+real_conflict : (S : Setting) (p : Plan) (c : Conflict) → Some (conflict_of c) ≡ conflicts.first_conflict S p → conflicts.HasConflict S p (conflict_of c)
 real_conflict S p c e = first_real S p (conflict_of c) (subst (IsFirst S p) (sym e) (conflict_is_first S p))
 
 module _ (m : Model) (limit : ℕ) (table : List Node) (t : tree.Tree) (f : Follows m table Working t) where
@@ -45,7 +45,7 @@ module _ (m : Model) (limit : ℕ) (table : List Node) (t : tree.Tree) (f : Foll
   found_turn : (r : Option ℕ) → CheapestSoFar table (length table) r → tree.turn P limit t ≡ tree.turn_at P limit t.nodes (option_map (found_of t.nodes) r)
   found_turn r b = working_turn ∙ ap (tree.turn_at P limit t.nodes) (cheapest_of m table t.nodes f.tracks r b)
 
-  pub turn_none : CheapestSoFar table (length table) None → Follows m table Unsolvable (tree.turn P limit t)
+  turn_none : CheapestSoFar table (length table) None → Follows m table Unsolvable (tree.turn P limit t)
   unfolding tree.turn_at
   turn_none b = subst (Follows m table Unsolvable) (sym (found_turn None b)) (record { tracks = f.tracks; verdict_is = refl })
 
@@ -60,22 +60,60 @@ module _ (m : Model) (limit : ℕ) (table : List Node) (t : tree.Tree) (f : Foll
         ∙ ap (λ (p : Plan). tree.turn_on P limit t.nodes (found_of t.nodes k) (conflicts.first_conflict S p)) (f.tracks.each k b.below).routes
         ∙ ap (tree.turn_on P limit t.nodes (found_of t.nodes k)) (sym e)
 
-    pub turn_solved : None ≡ conflicts.first_conflict S (plan_of S rs) → Follows m table (Solved k) (tree.turn P limit t)
+    turn_solved : None ≡ conflicts.first_conflict S (plan_of S rs) → Follows m table (Solved k) (tree.turn P limit t)
     unfolding tree.turn_on
     turn_solved e = subst (Follows m table (Solved k)) (sym (conflict_turn None e)) (record { tracks = f.tracks; verdict_is = refl })
 
     module _ (c : Conflict) (e : Some (conflict_of c) ≡ conflicts.first_conflict S (plan_of S rs)) where
-      pub turn_full : limit < length table + 2 → Follows m table Full (tree.turn P limit t)
+      turn_full : limit < length table + 2 → Follows m table Full (tree.turn P limit t)
       unfolding tree.turn_on
       turn_full l =
           let full = lt-ltb limit (length t.nodes + 2) (omega (arith, f.tracks.size)) in
           subst (Follows m table Full) (sym (conflict_turn (Some (conflict_of c)) e ∙ cond-true (ltb limit (length t.nodes + 2)) (tree.tree_of t.nodes tree.full) (tree.tree_of (tree.expand P t.nodes (found_of t.nodes k) (conflict_of c)) tree.working) full)) (record { tracks = f.tracks; verdict_is = refl })
 
-      pub turn_on : length table + 2 ≤ limit → (after : List Node) → Tracks m after (tree.expand P t.nodes (found_of t.nodes k) (conflict_of c)) → Follows m after Working (tree.turn P limit t)
+      turn_on : length table + 2 ≤ limit → (after : List Node) → Tracks m after (tree.expand P t.nodes (found_of t.nodes k) (conflict_of c)) → Follows m after Working (tree.turn P limit t)
       unfolding tree.turn_on
       turn_on l after g =
           let more = le-ltb limit (length t.nodes + 2) (omega (arith, f.tracks.size)) in
           subst (Follows m after Working) (sym (conflict_turn (Some (conflict_of c)) e ∙ cond-false (ltb limit (length t.nodes + 2)) (tree.tree_of t.nodes tree.full) (tree.tree_of (tree.expand P t.nodes (found_of t.nodes k) (conflict_of c)) tree.working) more)) (record { tracks = g; verdict_is = refl })
+
+-- a turn of an engine that works
+module _ (m : Model) (e : Engine) (works : e.verdict ≡ Working) where
+  abbrev rows : List Node
+  rows = e.table.nodes.items
+
+  -- the engine with a table and a verdict follows the turn of whatever tree it follows now
+  abbrev Turned : List Node → Verdict → Type 0
+  Turned table v = (t : tree.Tree) → Follows m rows e.verdict t → Follows m table v (tree.turn (search_of m) e.limit t)
+
+  found : (r : Option ℕ) → CheapestSoFar rows (vec_len e.table.nodes) r → CheapestSoFar rows (length rows) r
+  found r b = subst (λ (n : ℕ). CheapestSoFar rows n r) e.table.nodes.ok.0 b
+
+  now : (t : tree.Tree) → Follows m rows e.verdict t → Follows m rows Working t
+  now t f = subst (λ (v : Verdict). Follows m rows v t) works f
+
+  pub goes_none : CheapestSoFar rows (vec_len e.table.nodes) None → Turned rows Unsolvable
+  goes_none b t f = turn_none m e.limit rows t (now t f) (found None b)
+
+  -- given the cheapest open node, as it was handed out, and what was found of its routes
+  module _ (k : ℕ) (b : CheapestSoFar rows (vec_len e.table.nodes) (Some k)) (n : Node) (is : n ≡ get_or rows k empty) where
+    told : (o : Option conflicts.Conflict) → o ≡ conflicts.first_conflict m.setting (plan_of m.setting n.routes) → o ≡ conflicts.first_conflict m.setting (plan_of m.setting (get_or rows k empty).routes)
+    told o h = h ∙ ap (λ (n : Node). conflicts.first_conflict m.setting (plan_of m.setting n.routes)) is
+
+    pub goes_solved : None ≡ conflicts.first_conflict m.setting (plan_of m.setting n.routes) → Turned rows (Solved k)
+    goes_solved h t f = turn_solved m e.limit rows t (now t f) k (found (Some k) b) (told None h)
+
+    module _ (c : Conflict) (h : Some (conflict_of c) ≡ conflicts.first_conflict m.setting (plan_of m.setting n.routes)) where
+      pub is_real : conflicts.HasConflict m.setting (plan_of m.setting (get_or rows k empty).routes) (conflict_of c)
+      is_real = real_conflict m.setting (plan_of m.setting (get_or rows k empty).routes) c (told (Some (conflict_of c)) h)
+
+      pub goes_full : e.limit < vec_len e.table.nodes + 2 → Turned rows Full
+      goes_full l t f = turn_full m e.limit rows t (now t f) k (found (Some k) b) c (told (Some (conflict_of c)) h) (omega (arith, l, e.table.nodes.ok.0))
+
+      pub goes_on : vec_len e.table.nodes + 2 ≤ e.limit → (after : List Node) → ((t : tree.Tree) → Tracks m rows t.nodes → Tracks m after (tree.expand (search_of m) t.nodes (found_of t.nodes k) (conflict_of c))) → Turned after e.verdict
+      goes_on l after h' t f =
+          subst (λ (v : Verdict). Follows m after v (tree.turn (search_of m) e.limit t)) (sym works)
+          (turn_on m e.limit rows t (now t f) k (found (Some k) b) c (told (Some (conflict_of c)) h) (omega (arith, l, e.table.nodes.ok.0)) after (h' t f.tracks))
 
 over : (v : Verdict) → v ≢ Working → tree.is_working (verdict_of v) ≡ false
 over Working h = absurd (h refl)
