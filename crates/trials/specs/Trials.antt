@@ -147,7 +147,7 @@ searches =
     ∷ searched square 2 (at 1 0 ∷ []) (at 0 1 ∷ []) 3 1 (Some 2) (solved 0) ((at 1 0 ∷ at 0 0 ∷ at 0 1 ∷ []) ∷ [])
     ∷ searched square 2 (at 0 0 ∷ at 1 1 ∷ []) (at 1 1 ∷ at 0 0 ∷ []) 3 1 (Some 4) working []
     ∷ searched square 2 (at 0 0 ∷ at 1 1 ∷ []) (at 1 1 ∷ at 0 0 ∷ []) 3 2 (Some 4) (solved 1)
-      ((at 0 0 ∷ at 0 1 ∷ at 1 1 ∷ []) ∷ (at 1 1 ∷ at 1 0 ∷ at 0 0 ∷ []) ∷ [])
+    ((at 0 0 ∷ at 0 1 ∷ at 1 1 ∷ []) ∷ (at 1 1 ∷ at 1 0 ∷ at 0 0 ∷ []) ∷ [])
     ∷ []
 
 abbrev pub trials : List Trial
