@@ -1,4 +1,4 @@
-// Answers each example twice: for the plan alone, and with all that can be asked besides.
+// Answers each example three times: for the plan alone, and with each of the two arguments.
 #![tactic(auto)]
 
 use hatch::{Asked, answer};
@@ -20,24 +20,16 @@ const NAMES: [&str; 12] = [
     "refused-skirt",
 ];
 
-const PLAN: Asked = Asked {
-    check: false,
-    drive: false,
-};
-
-const ALL: Asked = Asked {
-    check: true,
-    drive: true,
-};
-
 fn main(rt: HostRuntime) -> anyhow::Result<()> {
     for name in NAMES {
         let path = format!(in rt.alloc(); "{name}.job")?;
         let file = fs::read(&rt, path.as_str())?;
         println!(rt; "{name}")?;
-        show(&rt, PLAN, file.as_slice())?;
-        println!(rt; "{name}, with all that can be asked")?;
-        show(&rt, ALL, file.as_slice())?;
+        show(&rt, Asked::PLAN, file.as_slice())?;
+        println!(rt; "{name} --check")?;
+        show(&rt, Asked::PLAN.with("--check"), file.as_slice())?;
+        println!(rt; "{name} --drive")?;
+        show(&rt, Asked::PLAN.with("--drive"), file.as_slice())?;
     }
     Ok(())
 }

@@ -1,6 +1,8 @@
 // What is done at the hatch with a job file: the plan, and what may be asked besides.
 #![tactic(auto)]
 
+ghost use Rattle.std.specs.Prelude.{◌≡◌, ◌≢◌, true, codes};
+
 use crate::drive::drive;
 use anyhow::{anyhow, bail};
 use fault::cause::Fault;
@@ -23,6 +25,33 @@ mod show;
 pub struct Asked {
     pub check: bool,
     pub drive: bool,
+}
+
+impl Asked {
+    // Nothing but the plan.
+    pub const PLAN: Asked = Asked {
+        check: false,
+        drive: false,
+    };
+
+    // What is asked with one argument more. Other words ask for nothing.
+    pub fn with(self, word: &str) -> Asked
+        ensures check { word.now ≡ codes "--check" → result ≡ record { check = true; drive = self.drive } }
+        ensures drive { word.now ≡ codes "--drive" → result ≡ record { check = self.check; drive = true } }
+        ensures other { word.now ≢ codes "--check" → word.now ≢ codes "--drive" → result ≡ self }
+    {
+        match word {
+            "--check" => Asked {
+                check: true,
+                ..self
+            },
+            "--drive" => Asked {
+                drive: true,
+                ..self
+            },
+            _ => self,
+        }
+    }
 }
 
 // Prints what is asked of a job file on standard output. A refusal's line is printed as well, and is an error.

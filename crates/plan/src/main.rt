@@ -10,14 +10,6 @@ use std::io::Read;
 fn main(rt: HostRuntime) -> anyhow::Result<()> {
     let mut file = Vec::new(rt.alloc());
     rt.stdin().read_to_end(&mut file)?;
-    let asked = Asked {
-        check: is_asked(&rt, "--check")?,
-        drive: is_asked(&rt, "--drive")?,
-    };
+    let asked = env::args(&rt)?.fold(Asked::PLAN, |asked, word| asked.with(word.as_str()));
     answer(&rt, asked, file.as_slice())
-}
-
-// Whether the word is among the arguments.
-fn is_asked(rt: &HostRuntime, word: &str) -> anyhow::Result<bool> {
-    Ok(env::args(rt)?.any(|argument| argument.as_str() == word))
 }
