@@ -1,7 +1,10 @@
 // What is done at the hatch with a job file: the plan, and what may be asked besides.
 #![tactic(auto)]
 
-ghost use Rattle.std.specs.Prelude.{◌≡◌, ◌≢◌, true, codes};
+ghost use Rattle.std.specs.Prelude.{◌≡◌, ◌≢◌, true, codes, MatchResult};
+ghost use Rattle.job.specs.declared.job.Job.{Job};
+ghost use Rattle.job.specs.Facts.{facts};
+ghost use Rattle.job.specs.Format.{encode};
 
 use crate::drive::drive;
 use anyhow::{anyhow, bail};
@@ -56,12 +59,24 @@ impl Asked {
 
 // Prints what is asked of a job file on standard output. A refusal's line is printed as well, and is an error.
 pub fn answer(rt: &HostRuntime, asked: Asked, file: &[u8]) -> anyhow::Result<()> {
+    tell(rt, asked, &accepted(rt, file)?)
+}
+
+// The job of a file. If it is refused, the refusal's line is printed, and it is an error: a file is refused before anything is asked.
+pub fn accepted(rt: &HostRuntime, file: &[u8]) -> anyhow::Result<Job>
+    ensures { MatchResult result (λ job. file.now ≡ encode (facts job)) (λ _. (job : Job) → file.now ≢ encode (facts job)) }
+{
     let mut job = Job::new();
     job.read(file).map_err(|fault| refused(rt, fault))?;
+    Ok(job)
+}
+
+// Prints what is asked of a job.
+pub fn tell(rt: &HostRuntime, asked: Asked, job: &Job) -> anyhow::Result<()> {
     if asked.check {
-        check(rt, &job)?;
+        check(rt, job)?;
     }
-    let search = plan(rt, &job)?;
+    let search = plan(rt, job)?;
     if asked.drive && search.verdict() == Verdict::Solved {
         drive(rt, &search, job.sleds().len())?;
     }

@@ -1,6 +1,7 @@
-// How routes, drawings and rows of a floor are printed.
+// How routes, shapes and rows of a floor are printed.
 use grid::cell::Cell;
 use grid::place::Place;
+use job::shape::Shape;
 use std::fmt;
 
 // A blank and a place for every instant.
@@ -13,6 +14,19 @@ impl fmt::Display for Route<'_> {
             write!(f, " {}", Place::from(*number))?;
         }
         Ok(())
+    }
+}
+
+// The kind of a shape, and its sides or its rows.
+#[derive(Clone, Copy)]
+pub struct Shown(pub Shape);
+
+impl fmt::Display for Shown {
+    fn fmt<W: fmt::Write>(&self, f: &mut fmt::Formatter<W>) -> fmt::Result {
+        match self.0 {
+            Shape::Rectangle { width, height } => write!(f, "rectangle {width} by {height}"),
+            Shape::Drawing { rows } => write!(f, "drawing {}", Drawn(rows)),
+        }
     }
 }
 

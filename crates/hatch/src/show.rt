@@ -1,8 +1,7 @@
 // A job in lines that a person reads: horizon and limit, the floor, and each sled.
-use crate::printed::{Drawn, Row};
+use crate::printed::{Row, Shown};
 use grid::floor::Floor;
 use job::job::Job;
-use job::shape::Shape;
 use job::sled::Sled;
 
 pub fn show_job(rt: &HostRuntime, job: &Job) -> anyhow::Result<()> {
@@ -23,14 +22,12 @@ fn show_floor(rt: &HostRuntime, floor: &Floor) -> anyhow::Result<()> {
     Ok(())
 }
 
+// In one write, so that a line is printed whole or not at all.
 fn show_sled(rt: &HostRuntime, number: usize, sled: &Sled) -> anyhow::Result<()> {
-    match sled.shape {
-        Shape::Rectangle { width, height } => print!(rt;
-            "sled {number} rectangle {width} by {height}"
-        )?,
-        Shape::Drawing { rows } => print!(rt; "sled {number} drawing {}", Drawn(rows))?,
-    }
     let (skirt, start, goal) = (sled.skirt, sled.start, sled.goal);
-    println!(rt; " skirt {skirt} from {start} to {goal}")?;
+    println!(rt;
+        "sled {number} {} skirt {skirt} from {start} to {goal}",
+        Shown(sled.shape)
+    )?;
     Ok(())
 }

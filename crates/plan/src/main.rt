@@ -3,13 +3,14 @@
 // drives the plan on a deck.
 #![tactic(auto)]
 
-use hatch::{Asked, answer};
+use hatch::{Asked, accepted, tell};
 use std::env;
 use std::io::Read;
 
 fn main(rt: HostRuntime) -> anyhow::Result<()> {
     let mut file = Vec::new(rt.alloc());
     rt.stdin().read_to_end(&mut file)?;
+    let job = accepted(&rt, file.as_slice())?;
     let asked = env::args(&rt)?.fold(Asked::PLAN, |asked, word| asked.with(word.as_str()));
-    answer(&rt, asked, file.as_slice())
+    tell(&rt, asked, &job)
 }
