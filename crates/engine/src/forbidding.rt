@@ -43,7 +43,8 @@ impl Forbidden {
         }
     }
 
-    // Whether a move is in the list.
+    // Whether a move is in the list. It is seldom asked; inlined into `forbids`, which each step of a walk asks, it makes a search slower.
+    #[inline(never)]
     fn has_move(&self, step: Step) -> bool
         ensures { result ≡ listed (told self.now.moves) step.instant step.from step.to }
     {

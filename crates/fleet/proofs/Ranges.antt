@@ -1,12 +1,12 @@
--- What a run over a range of signed numbers gives, where the last is in the range.
-use Rattle.std.proofs.Common.{◌≡◌, ℕ, zero, suc, ◌+◌, ◌-◌, ◌*◌, ◌<◌, ◌≤◌, Bool, true, false, ℤ, pos, ◌+ℤ◌, ◌-ℤ◌, List, [], ◌∷◌, length, Option, Some, None, MatchOption, MatchBool, Bor, IsTrue, sym, ap, subst, ◌∙◌, ⊎_elim, arith}
+-- What a run over a range of signed numbers gives.
+use Rattle.std.proofs.Common.{◌≡◌, ℕ, zero, suc, ◌+◌, ◌-◌, ◌*◌, ◌<◌, ◌≤◌, Bool, true, false, ℤ, pos, ◌+ℤ◌, ◌-ℤ◌, List, [], ◌∷◌, length, Option, Some, None, MatchOption, MatchBool, Bor, IsTrue, sym, ap, subst, ◌∙◌, arith}
 use borrow.Author.Differences.{up, down}
-use Rattle.std.proofs.lemmas.Bool.{cases_Bool, both_ways, false_from_ne_true}
+use Rattle.std.proofs.lemmas.Bool.{both_ways, false_from_ne_true}
 use Rattle.std.proofs.lemmas.Int.{ints}
-use Rattle.std.specs.declared.ops.RangeInclusive.{RangeInclusive}
+use Rattle.std.specs.declared.ops.Range.{Range}
 use Rattle.std.specs.Int.{int_gap}
 use Rattle.std.specs.List.{slice_get}
-use Rattle.std.specs.Range.{range_inclusive_start, range_inclusive_end, range_inclusive_exhausted, range_inclusive_len, range_inclusive_steps}
+use Rattle.std.specs.Range.{range_steps}
 use Rattle.std.specs.Iterator.{Yields}
 use Rattle.std.specs.Iterator.Runs.{Run, AllItems, AnyItemGives, AllItemsGive, CallKeepsClosure, NoItemPasses, EndsAtFirstPassing}
 use Rattle.std.specs.Fn.{Called, CalledAt}
@@ -14,45 +14,47 @@ use denote.Param.Members.{Mut}
 use Rattle.std.specs.Option.{IsSomeAnd}
 use Rattle.std.proofs.iter.Serving.{gap_is}
 use Rattle.std.proofs.iter.runs.Made.{took, at-is}
-use Rattle.std.proofs.iter.runs.Lists.{same_Some, at_some, nth_read, slice_get_within}
+use Rattle.std.proofs.iter.runs.Lists.{same_Some, at_some, nth_read}
 use Rattle.fleet.specs.Scans.{some_within, FirstNear, Within, TellsWithin}
 use Rattle.fleet.specs.ScansLemmas.{within_told, near_first_is}
 
-abbrev left : RangeInclusive ℤ → ℕ
-left s = range_inclusive_len int_gap (range_inclusive_start s) (range_inclusive_end s) (range_inclusive_exhausted s)
+abbrev left : Range ℤ → ℕ
+left s = int_gap s.start s.end
 
-abbrev pub signed_steps : RangeInclusive ℤ → Option ℤ → RangeInclusive ℤ → Type 0
-signed_steps = range_inclusive_steps int_gap (λ x y. y ≡ x +ℤ pos 1)
+abbrev pub signed_steps : Range ℤ → Option ℤ → Range ℤ → Type 0
+signed_steps = range_steps int_gap (λ x y. y ≡ x +ℤ pos 1)
 
 -- the numbers come one after another, from a on
 abbrev Counts : List ℤ → ℤ → Type 0
 Counts xs a = (k : ℕ) → MatchOption (slice_get xs k) (Unit {0}) (λ x. x ≡ a +ℤ pos k)
 
-spent : (s : RangeInclusive ℤ) → range_inclusive_exhausted s ≡ true → left s ≡ 0
-spent s e = ap (range_inclusive_len int_gap (range_inclusive_start s) (range_inclusive_end s)) e
+-- a step leaves one number less
+fewer_left : (s t : Range ℤ) → t.end ≡ s.end → 0 < left s → t.start ≡ s.start +ℤ pos 1 → left t + 1 ≡ left s
+fewer_left s t same some next = omega (arith, ints, same, some, next, gap_is s.start s.end, gap_is s.end s.start, gap_is t.start t.end, gap_is t.end t.start)
 
-counted : (xs : List ℤ) (s t : RangeInclusive ℤ) → Yields signed_steps s xs t → (left t + length xs ≡ left s) × Counts xs (range_inclusive_start s)
+counted : (xs : List ℤ) (s t : Range ℤ) → Yields signed_steps s xs t → (left t + length xs ≡ left s) × Counts xs s.start
 counted [] s t y = (omega (arith, ap left y), λ k. tt)
-counted (x ∷ xs) s t y = let (fewer, places) = counted xs y.0 t y.2 in (omega (arith, fewer, y.1.1.1), at fewer places)
+counted (x ∷ xs) s t y =
+    let (fewer, places) = counted xs y.0 t y.2 in
+    let (same, step) = y.1 in
+    let (some, first, next) = step in
+    (omega (arith, fewer, fewer_left s y.0 same some next), at first next places)
   where
-    at : left t + length xs ≡ left y.0 → Counts xs (range_inclusive_start y.0) → Counts (x ∷ xs) (range_inclusive_start s)
-    at fewer places zero = omega (arith, ints, y.1.1.0)
-    at fewer places (suc k) = at_some (slice_get xs k) _ (λ v e.
-        ⊎_elim
-        (λ over. absurd (omega (arith, spent y.0 over, fewer, slice_get_within xs k v e)))
-        (λ more. let here = subst (λ o. MatchOption o (Unit {0}) (λ x. x ≡ range_inclusive_start y.0 +ℤ pos k)) e (places k) in omega (arith, ints, here, y.1.1.2 more))
-        (cases_Bool (range_inclusive_exhausted y.0)))
+    at : x ≡ s.start → y.0.start ≡ s.start +ℤ pos 1 → Counts xs y.0.start → Counts (x ∷ xs) s.start
+    at first next places zero = omega (arith, ints, first)
+    at first next places (suc k) = at_some (slice_get xs k) _ (λ v e.
+        let here = subst (λ o. MatchOption o (Unit {0}) (λ x. x ≡ y.0.start +ℤ pos k)) e (places k) in omega (arith, ints, here, next))
 
 turned : (k : ℕ) → pos 0 -ℤ pos 7 +ℤ pos k ≡ pos k -ℤ pos 7 +ℤ pos 0
 turned k = omega (arith, ints)
 
 abbrev Over : Run signed_steps → ℕ → ℤ → Type 0
-Over p m z = (range_inclusive_start p.from ≡ z -ℤ pos m) × (range_inclusive_end p.from ≡ z +ℤ pos m) × (range_inclusive_exhausted p.from ≡ false)
+Over p m z = (p.from.start ≡ z -ℤ pos m) × (p.from.end ≡ z +ℤ pos m +ℤ pos 1)
 
 -- a run over the numbers from z - m to z + m
 module _ (p : Run signed_steps) (m : ℕ) (z : ℤ) (over : Over p m z) where
   many : left p.from ≡ 2 * m + 1
-  many = rw (over.0, over.1, over.2) (omega (arith, ints, gap_is (z -ℤ pos m) (z +ℤ pos m), gap_is (z +ℤ pos m) (z -ℤ pos m)))
+  many = omega (arith, ints, over.0, over.1, gap_is p.from.start p.from.end, gap_is p.from.end p.from.start)
 
   short : p.len ≤ 2 * m + 1
   short = omega (arith, p.long, many, (counted p.items p.from (took p).0 (took p).1).0)
@@ -63,7 +65,7 @@ module _ (p : Run signed_steps) (m : ℕ) (z : ℤ) (over : Over p m z) where
   place : (k : ℕ) → k < p.len → p.at k ≡ Some (z -ℤ pos m +ℤ pos k)
   place k below =
       let read = nth_read p.items k (pos 0) (omega (arith, p.long)) in
-      let is = subst (λ o. MatchOption o (Unit {0}) (λ x. x ≡ range_inclusive_start p.from +ℤ pos k)) read ((counted p.items p.from (took p).0 (took p).1).1 k) in
+      let is = subst (λ o. MatchOption o (Unit {0}) (λ x. x ≡ p.from.start +ℤ pos k)) read ((counted p.items p.from (took p).0 (took p).1).1 k) in
       at-is p k ∙ read ∙ ap Some (rw over.0 at is)
 
   inside : (k : ℕ) → k < p.len → Within m z (z -ℤ pos m +ℤ pos k)

@@ -37,7 +37,7 @@ fn row_has<T: Fn(Offset) -> bool>(test: &T, dy: i8, m: u8, x: i8) -> bool
     any_within(|dx| test(Offset { dx, dy }), m, x)
 }
 
-// Whether some number from z - m to z + m passes.
+// Whether some number from z - m to z + m passes. The range leaves out its end: with it, it takes more than twice as long.
 fn any_within<T: Fn(i8) -> bool>(test: T, m: u8, z: i8) -> bool
     requires callable { T.IsAlwaysCallable test }
     requires narrow { m ≤ 7 }
@@ -45,7 +45,7 @@ fn any_within<T: Fn(i8) -> bool>(test: T, m: u8, z: i8) -> bool
     ensures { (set : ℤ → Bool) → TellsWithin m z (T.post test) set → result ≡ some_within m z set }
 {
     let far = m as i8;
-    (z - far..=z + far).any(|a| test(a))
+    (z - far..z + far + 1).any(|a| test(a))
 }
 
 // The first offset that passes, by row and then column.
@@ -64,7 +64,7 @@ fn first_near<T: Fn(i8) -> bool>(test: T) -> Option<i8>
     ensures { (set : ℤ → Bool) → TellsWithin 7 (pos 0) (T.post test) set → FirstNear set result }
 {
     let far = REACH as i8;
-    (-far..=far).find(|&z| test(z))
+    (-far..far + 1).find(|&z| test(z))
 }
 
 // Whether z lies from -n to n.

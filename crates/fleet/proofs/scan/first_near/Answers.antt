@@ -5,4 +5,4 @@ use Rattle.fleet.proofs.scan.first_near.Goals as goal
 pub returns : goal.returns
 returns g c = λ set tells.
     let (p, on, ran) = c.find.ensures.runs in
-    find_is p set (rw on (search rules, search rules, c.new.ensures.exhausted)) _ _ (λ a r f' e. search rules) (λ x near r e. tells x near r (search rules)) c.find.result ran
+    find_is p set (rw on (search rules, search rules)) _ _ (λ a r f' e. search rules) (λ x near r e. tells x near r (search rules)) c.find.result ran
