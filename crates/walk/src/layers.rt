@@ -1,10 +1,10 @@
 // The layered walk: from a start, step by step, each place gets the sum over all step sequences of the product of their step weights.
-ghost use Rattle.std.specs.Prelude.{◌≡◌, ◌<◌, MatchResult};
+ghost use Rattle.std.specs.Prelude.{◌≡◌, ◌<◌, ◌≤◌, length, MatchResult};
 ghost use Rattle.walk.specs.Promises.{Refused, Walked};
 ghost use Rattle.walk.specs.Sequences.{total, Row};
 ghost use Rattle.walk.specs.Workings.{stepped};
 
-use crate::rows::{Layer, begin};
+use crate::rows::{Layer, begin, write_begin};
 use crate::weight::{Step, Steps, Weight};
 use fault::cause::{Cause, Fault};
 use grid::board::neighbour;
@@ -13,7 +13,8 @@ use grid::place::BOARD_PLACES;
 use std::array;
 
 // What one more step makes of a row at one place: the sum over the places that a step leads from.
-fn gather<W: Weight + Copy, S: Steps<W>>(steps: &S, instant: u8, row: &Layer<W>, to: u8) -> W
+fn gather<W: Weight + Copy, S: Steps<W>>(steps: &S, instant: u8, row: &[W], to: u8) -> W
+    requires { length row.now ≡ BOARD_PLACES }
     ensures { result ≡ stepped W.ops (S.step steps.now) instant row.now to }
 {
     let mut sum = W::nought();
@@ -55,6 +56,37 @@ pub(crate) fn walk_row<W: Weight + Copy, S: Steps<W>>(steps: &S, start: u8, coun
     row
 }
 
+// Writes into a lent row what one more step makes of another.
+fn write_step<W: Weight + Copy, S: Steps<W>>(steps: &S, instant: u8, row: &[W], out: &mut [W])
+    requires { (length row.now ≡ BOARD_PLACES) × (length out.old ≡ BOARD_PLACES) }
+    ensures { Row W.ops (stepped W.ops (S.step steps.now) instant row.now) out.new }
+{
+    // By number: what is lent is a slice, of which a closure that makes an array knows nothing.
+    for to in 0..BOARD_PLACES {
+        out[to] = gather(steps, instant, row, to as u8);
+    }
+}
+
+// Walks `count` steps from `start` in two lent rows. A row of weights is as large as the caller makes a weight, so none is put on the stack.
+fn walk_lent<W: Weight + Copy, S: Steps<W>>(
+    steps: &S,
+    start: u8,
+    count: u8,
+    row: &mut [W],
+    spare: &mut [W],
+)
+    requires { (length row.old ≡ BOARD_PLACES) × (length spare.old ≡ BOARD_PLACES) }
+    ensures totals { Row W.ops (total W.ops (S.step steps.now) count 0 start) row.new }
+    ensures spare_totals { Row W.ops (total W.ops (S.step steps.now) count 0 start) spare.new }
+{
+    write_begin(start, row);
+    for instant in 0..count {
+        write_step(steps, instant, row, spare);
+        row.copy_from_slice(spare);
+    }
+    spare.copy_from_slice(row);
+}
+
 // Walks `count` steps from `start`, and writes into the first 256 entries of two rows what each place then has; shorter rows are refused.
 // Both rows are the caller's, and are promised to hold it.
 pub fn walk<W: Weight + Copy, S: Steps<W>>(
@@ -69,8 +101,12 @@ pub fn walk<W: Weight + Copy, S: Steps<W>>(
     if row.len() < BOARD_PLACES || spare.len() < BOARD_PLACES {
         return Err(Cause::BufferTooShort.into());
     }
-    let walked: &[W] = &walk_row(steps, start, count);
-    row[..BOARD_PLACES].copy_from_slice(walked);
-    spare[..BOARD_PLACES].copy_from_slice(walked);
+    walk_lent(
+        steps,
+        start,
+        count,
+        &mut row[..BOARD_PLACES],
+        &mut spare[..BOARD_PLACES],
+    );
     Ok(())
 }

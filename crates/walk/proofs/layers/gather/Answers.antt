@@ -1,5 +1,5 @@
 use Rattle.std.proofs.Common.{◌<◌, length, ap, ◌∙◌, ap₂, rules}
-use Rattle.std.proofs.lemmas.List.{get_or_default}
+use Rattle.std.proofs.lemmas.List.{get_or_read}
 use Rattle.walk.proofs.Sides.{sum_none, sum_past_none, sum_past, sum_all}
 use Rattle.walk.proofs.layers.gather.Goals as goal
 use Rattle.walk.proofs.layers.gather.Goals.{in-Some, in_default}
@@ -16,7 +16,7 @@ loop-towards-preserved g c =
     elim c.match-neighbour.branch [
       | in-Some w ↦
           let within : w.in-Some.from < length c.args.row.now = search rules in
-          let term = w.times.ensures ∙ ap₂ o.mul (get_or_default c.args.row.now w.in-Some.from w.index-row-from.result o.nought within) w.weight-weight.ensures in
+          let term = w.times.ensures ∙ ap₂ o.mul (get_or_read _ _ _ within w.index-row-from.is o.nought) w.weight-weight.ensures in
           rw (w.sum-is ∙ w.plus-sum.ensures ∙ ap (o.add before) term)
           (sum_past o laws _ c.args.to k before c.loop-towards.invariant _ w.in-Some.from c.loop-towards-test.true w.in-Some.ensures.side_is)
       | in_default w ↦ rw w.sum-is (sum_past_none o laws _ c.args.to k before c.loop-towards.invariant _ c.loop-towards-test.true w.in_default.ensures.side_is)
