@@ -1,7 +1,8 @@
 -- How long the plan of a solved tree lasts.
-use Rattle.std.proofs.Common.{◌≡◌, ℕ, List, Option, sym, refl, subst}
+use Rattle.std.proofs.Common.{◌≡◌, ℕ, List, Option, Result, Some, sym, refl, ◌∙◌, subst}
 use Rattle.std.specs.Option.{ok_or}
 use Rattle.fault.specs.declared.cause.Cause.TheVariants.{NotSolved}
+use Rattle.fault.specs.declared.cause.Fault.{Fault}
 use Rattle.fault.specs.Causes.{fault_at}
 use Rattle.split.specs.Situations.{Sets}
 use Rattle.tree.specs.Plans.{IsPlan}
@@ -10,6 +11,7 @@ use Rattle.tree.specs.Calls.{routes_at}
 use Rattle.tree.proofs.Choice.{planner_keeps_terms}
 use Rattle.tree.proofs.Optimal.{solved_is_least_sum}
 use Rattle.engine.specs.Engine.{IsAt, makespan_told}
+use Rattle.engine.specs.Model.{Model}
 use Rattle.plans.specs.Tasks.{Task, TaskTerms}
 use Rattle.plans.specs.Instance.{setting_of, rule_of, search_of, SplitTerms}
 use Rattle.plans.proofs.Terms.{setting_terms, rule_terms}
@@ -19,9 +21,9 @@ use Rattle.instance.specs.Terms.{task_terms}
 use Rattle.search.specs.declared.state.Search.{Search}
 use Rattle.search.specs.declared.state.Opened.{Opened}
 use Rattle.search.specs.States.{tree_after, OpenedAt}
-use Rattle.search.specs.Telling.{last_told, IsGreatestCost}
+use Rattle.search.specs.Telling.{last_told, IsGreatestCost, TellsMakespan}
 use Rattle.search.proofs.Ending.{routes_nth}
-use Rattle.search.proofs.Going.{same_task}
+use Rattle.search.proofs.Going.{same_task, when_open}
 
 -- the engine's answer in the words of a search
 told_last : (K : Task) (nodes : List Node) (v : Verdict) (r : Option ℕ) → r ≡ makespan_told (setting_of K) nodes v → ok_or r (fault_at NotSolved 0) ≡ last_told K nodes v
@@ -53,3 +55,10 @@ module _ {F R : Type 0} (sets : R → Sets) (s : Search F R) (x : Opened) (K : T
   pub greatest_cost_at : SplitTerms (sets s.rule) → IsGreatestCost K (tree_after sets s K limit n).nodes (tree_after sets s K limit n).verdict
   greatest_cost_at split =
       greatest_cost K (subst (λ (k : Task). TaskTerms k) (same_task sets s x K limit n o held) (task_terms x.instance)) (sets s.rule) split limit n (tree_after sets s K limit n).verdict refl
+
+-- what the engine says of its problem is told of the search that has it open
+pub last_is_told : {F R : Type 0} (sets : R → Sets) (s : Search F R) (x : Opened) → s.opened ≡ Some x → SplitTerms (sets s.rule) → (m : Model) → m ≡ model_of (task_in x.instance) (sets s.rule) →
+    (o : Option ℕ) → ((t : Tree) → IsAt m s.engine t → o ≡ makespan_told m.setting t.nodes t.verdict) → (r : Result ℕ Fault) → r ≡ ok_or o (fault_at NotSolved 0) → TellsMakespan sets s r
+last_is_told sets s x is_open split m same o h r told =
+    let made = subst (λ (m : Model). (t : Tree) → IsAt m s.engine t → o ≡ makespan_told m.setting t.nodes t.verdict) same h in
+    when_open sets s x is_open (λ K limit n at held. (told ∙ lasts_at sets s x K limit n at held o made, greatest_cost_at sets s x K limit n at held split))

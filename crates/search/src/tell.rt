@@ -42,8 +42,9 @@ impl<F: Fleet, R: SplitRule> Search<F, R> {
     {
         let opened = self.opened.as_ref().ok_or(Cause::NotSolved)?;
         let problem = opened.problem(&self.rule);
-        self.engine
-            .makespan(&problem)
-            .ok_or(Cause::NotSolved.into())
+        let Some(last) = self.engine.makespan(&problem) else {
+            return Err(Cause::NotSolved.into());
+        };
+        Ok(last)
     }
 }
