@@ -29,7 +29,7 @@ use Rattle.tree.specs.Tree.{first_constraint, second_constraint, routes_under, m
 use Rattle.plans.specs.Instance.{is_step, stands_at, goes, meets_at, overlaps_in, collides_in, in_set}
 use Rattle.trials.specs.Trials.{at, two_at, places_of, Trial, shapes, routes, searches, trials, Holds}
 
-one_near : NearSet (rectangle 1 1)
+pub one_near : NearSet (rectangle 1 1)
 one_near x y e = ((grind (arith, nat_tests, ints, e), grind (arith, nat_tests, ints, e)), (grind (arith, nat_tests, ints, e), grind (arith, nat_tests, ints, e)))
 
 do_collide : (u : Position) (a : Move) (v : Position) (b : Move) → collide (rectangle 1 1) u a (rectangle 1 1) v b ≡ true → Collision (rectangle 1 1) u a (rectangle 1 1) v b

@@ -1,5 +1,5 @@
 -- Worked examples of the definitions, in one table.
-use Rattle.std.specs.Prelude.{◌≡◌, ℕ, zero, suc, ◌+◌, Bool, true, false, cond, List, [], ◌∷◌, ◌++◌, map, length, replicate, pos, ◌-ℤ◌, Some, None, MatchBool, filter, Option, slice_index_or, refl}
+use Rattle.std.specs.Prelude.{◌≡◌, ℕ, ◌<◌, ◌≤◌, zero, suc, ◌+◌, Bool, true, false, cond, List, [], ◌∷◌, ◌++◌, map, length, replicate, pos, ◌-ℤ◌, Some, None, MatchBool, filter, Option, slice_index_or, refl}
 use Rattle.std.proofs.Common.{lit≤}
 use Rattle.std.specs.List.{range_with_len}
 use Rattle.std.specs.Option.{option_map}
@@ -25,9 +25,11 @@ use Rattle.walk.specs.Routes.{chosen, cheapest_routes, route_cost}
 use Rattle.walk.specs.Sleds.{both_ends, open_floor}
 use Rattle.tree.specs.Calls.{routes_at}
 use Rattle.tree.specs.Plans.{Plan}
+use Rattle.tree.specs.Setting.{SettingTerms}
+use Rattle.tree.specs.Search.{RuleTerms}
 use Rattle.tree.specs.Tree.{Node, Tree, Verdict, working, solved, none, full, turns, bound}
-use Rattle.plans.specs.Tasks.{Task}
-use Rattle.plans.specs.Instance.{setting_of, search_of}
+use Rattle.plans.specs.Tasks.{Task, OfFloor}
+use Rattle.plans.specs.Instance.{setting_of, rule_of, search_of}
 
 abbrev pub at : (column row : ℕ) → Position
 at column row = record { column = column; row = row }
@@ -114,6 +116,27 @@ Holds (searched floor horizon starts goals limit n bound' verdict routes) =
     let tree = tree_after K limit n in
     (bound (setting_of K) tree ≡ bound') × (tree.verdict ≡ verdict) ×
     (routes_found tree.nodes tree.verdict ≡ map (map number_of) routes)
+
+-- the setting and the rule of such a task keep the terms of trees, so that the theorems speak of its search
+abbrev pub Keeps : Floor → (horizon : ℕ) (starts goals : List Position) → Type 0
+Keeps floor horizon starts goals =
+    let K = task_on floor horizon starts goals in
+    SettingTerms (setting_of K) × RuleTerms (setting_of K) (rule_of K single_sets)
+
+-- each place is one of the floor
+abbrev pub AllOf : Floor → List Position → Type 0
+AllOf floor us = (k : ℕ) → k < length us → OfFloor floor (slice_index_or us k (at 0 0))
+
+-- so it is with a step or more, wherever on the floor at most six sleds begin and end
+abbrev pub SearchesKeepTerms : Type 0
+SearchesKeepTerms =
+    (floor : Floor) (horizon : ℕ) (starts goals : List Position) → 1 ≤ horizon → length starts ≤ 6 → length goals ≡ length starts →
+    AllOf floor starts → AllOf floor goals → Keeps floor horizon starts goals
+
+-- and so it is with each search of the table
+abbrev pub KeepsTerms : Trial → Type 0
+KeepsTerms (searched floor horizon starts goals limit n bound' verdict routes) = Keeps floor horizon starts goals
+KeepsTerms _ = Unit {0}
 
 -- sleds that meet, skirts, and sets of a rule
 abbrev pub shapes : List Trial
