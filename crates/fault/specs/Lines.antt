@@ -14,9 +14,13 @@ refusal_line f =
 abbrev pub least_buffer : ℕ
 least_buffer = 4096
 
--- a call that writes some bytes from the front, and answers their length; or a short buffer, which stays as it was
+-- a call that writes some bytes from the front, and answers their length; or a buffer shorter than the least, which stays as it was
+abbrev pub WritesInto : (least : ℕ) (bytes before after : List ℕ) → Result ℕ Fault → Type 0
+WritesInto least bytes before after (Ok n) =
+    (least ≤ length before) × (n ≡ length bytes) × (n ≤ length before) × (after ≡ written before 0 bytes)
+WritesInto least bytes before after (Err f) =
+    (length before < least) × (f ≡ fault_at BufferTooShort 0) × (after ≡ before)
+
+-- the same of the smallest buffer that takes all lines
 abbrev pub Writes : (bytes before after : List ℕ) → Result ℕ Fault → Type 0
-Writes bytes before after (Ok n) =
-    (least_buffer ≤ length before) × (n ≡ length bytes) × (n ≤ length before) × (after ≡ written before 0 bytes)
-Writes bytes before after (Err f) =
-    (length before < least_buffer) × (f ≡ fault_at BufferTooShort 0) × (after ≡ before)
+Writes = WritesInto least_buffer

@@ -1,5 +1,5 @@
 // The line that tells a refusal: by hand, into the caller's memory.
-ghost use Rattle.fault.specs.Lines.{Writes, refusal_line};
+ghost use Rattle.fault.specs.Lines.{Writes, least_buffer, refusal_line};
 
 use crate::cause::Fault;
 pub use crate::lines::LINES_BUFFER;
@@ -8,6 +8,12 @@ use text::Text;
 
 impl Lines for Fault {
     ghost lines = { refusal_line };
+
+    ghost least = { least_buffer };
+
+    fn least() -> usize {
+        LINES_BUFFER
+    }
 
     fn put(&self, text: &mut Text) {
         text.put(b"refused ");

@@ -1,14 +1,14 @@
 // Writing the lines of a report into a buffer.
-ghost use Rattle.std.specs.Prelude.{◌≤◌, length};
+ghost use Rattle.std.specs.Prelude.{◌≡◌, ◌≤◌, length};
 ghost use Rattle.text.specs.Texts.{Appends};
-ghost use Rattle.fault.specs.Lines.{Writes};
+ghost use Rattle.fault.specs.Lines.{Writes, least_buffer};
 ghost use Rattle.lines.specs.Reports.{plan_lines, report_lines};
 
 use crate::outcome::{Outcome, put_outcome};
 use crate::report::Report;
 use crate::route::put_route;
 use fault::cause::Fault;
-use fault::lines::{Lines, write_lines};
+use fault::lines::{LINES_BUFFER, Lines, write_lines};
 use text::Text;
 
 // Writes the lines from the front of the buffer, and answers their length.
@@ -20,6 +20,14 @@ pub fn write_report(report: &Report, out: &mut [u8]) -> Result<usize, Fault>
 
 impl Lines for Report<'_> {
     ghost lines = { report_lines };
+
+    ghost least = { least_buffer };
+
+    fn least() -> usize
+        ensures { result ≡ least_buffer }
+    {
+        LINES_BUFFER
+    }
 
     fn put(&self, text: &mut Text) {
         put_outcome(text, self.outcome, self.turns);

@@ -11,4 +11,4 @@ pub returns : goal.returns
 returns g c =
     let whole = whole-text c.new-text.ensures.buffer c.new-text.ensures.front c.put.ensures.text c.in-Some.ensures in
     let same = c.put.ensures.text.same_buffer in
-    (c.if-out-lt-LINES_BUFFER.false, whole.1, omega (arith, whole.0, whole.1), search rules)
+    (omega (arith, c.if-out-least.false, c.least.ensures), whole.1, omega (arith, whole.0, whole.1), search rules)
