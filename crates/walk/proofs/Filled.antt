@@ -1,7 +1,7 @@
 -- Rows of weights, one layer after another.
 use Rattle.std.proofs.Common.{◌≡◌, ℕ, ◌+◌, ◌<◌, ◌≤◌, cond, eqb, List, ◌++◌, length, get_or, take, replicate, sym, ap, ◌∙◌, ap₂, zero-add, add-one, arith}
 use Rattle.std.proofs.ByRecursion.{All-weaker}
-use Rattle.std.proofs.lemmas.List.{get_or-replicate, length-take-le, length-replicate, get_or_append_left, ext_get_or}
+use Rattle.std.proofs.lemmas.List.{get_or-take, get_or-replicate, length-take-le, length-replicate, get_or_append_left, ext_get_or}
 use Rattle.grid.specs.Board.{next}
 use Rattle.walk.specs.Semiring.{Ops, Laws}
 use Rattle.walk.specs.Sequences.{total, Row}
@@ -21,12 +21,11 @@ module _ {W : Type 0} (o : Ops W) (laws : Laws o) (w : ℕ → ℕ → ℕ → W
       ∙ sym (total_last o laws w n 0 p q)
       ∙ ap (λ i. total o w i 0 p q) (sym (add-one n))
 
--- a part of n entries, each of which was made x
-pub filled_is : {X : Type 0} (n : ℕ) (x d : X) (row filled : List X) → n ≤ length row → length filled ≡ length (take n row) → ((q : ℕ) (e : X) → q < length (take n row) → get_or filled q e ≡ x) → filled ≡ replicate n x
-filled_is n x d row filled l long h =
-    let all : length (take n row) ≡ n = length-take-le n row l in
-    ext_get_or d filled (replicate n x) (long ∙ all ∙ sym (length-replicate n x)) (λ i k. h i d (omega arith) ∙ sym (get_or-replicate n i x d (omega arith)))
+-- n entries, each of which was made x
+pub filled_is : {X : Type 0} (n : ℕ) (x d : X) (filled : List X) → length filled ≡ n → ((q : ℕ) → q < n → get_or filled q d ≡ x) → filled ≡ replicate n x
+filled_is n x d filled long h =
+    ext_get_or d filled (replicate n x) (long ∙ sym (length-replicate n x)) (λ i k. h i (omega arith) ∙ sym (get_or-replicate n i x d (omega arith)))
 
--- a row that was written into a part of 256 entries
-pub row_front : {W : Type 0} (o : Ops W) (f : ℕ → W) (row xs ys : List W) → Row o f row → xs ≡ row → length xs ≡ 256 → Row o f (xs ++ ys)
-row_front o f row xs ys h same long q l = get_or_append_left xs ys o.nought q (omega arith) ∙ ap (λ zs. get_or zs q o.nought) same ∙ h q l
+-- a row into whose first entries those of another were copied
+pub row_front : {W : Type 0} (o : Ops W) (f : ℕ → W) (row ys : List W) → 256 ≤ length row → Row o f row → Row o f (take 256 row ++ ys)
+row_front o f row ys long h q l = get_or_append_left (take 256 row) ys o.nought q (omega (arith, length-take-le 256 row long)) ∙ get_or-take 256 row q o.nought l ∙ h q l

@@ -1,10 +1,10 @@
 // The layered walk: from a start, step by step, each place gets the sum over all step sequences of the product of their step weights.
-ghost use Rattle.std.specs.Prelude.{◌≡◌, ◌<◌, ◌≤◌, length, MatchResult};
+ghost use Rattle.std.specs.Prelude.{◌≡◌, ◌<◌, ◌≤◌, length, drop, MatchResult};
 ghost use Rattle.walk.specs.Promises.{Refused, Walked};
 ghost use Rattle.walk.specs.Sequences.{total, Row};
 ghost use Rattle.walk.specs.Workings.{stepped};
 
-use crate::rows::{Layer, begin, write_begin};
+use crate::rows::{Layer, begin, copy, write_begin};
 use crate::weight::{Step, Steps, Weight};
 use fault::cause::{Cause, Fault};
 use grid::board::neighbour;
@@ -14,7 +14,7 @@ use std::array;
 
 // What one more step makes of a row at one place: the sum over the places that a step leads from.
 fn gather<W: Weight + Copy, S: Steps<W>>(steps: &S, instant: u8, row: &[W], to: u8) -> W
-    requires { length row.now ≡ BOARD_PLACES }
+    requires { BOARD_PLACES ≤ length row.now }
     ensures { result ≡ stepped W.ops (S.step steps.now) instant row.now to }
 {
     let mut sum = W::nought();
@@ -56,18 +56,18 @@ pub(crate) fn walk_row<W: Weight + Copy, S: Steps<W>>(steps: &S, start: u8, coun
     row
 }
 
-// Writes into a lent row what one more step makes of another.
+// Writes into the first 256 entries of a lent row what one more step makes of another.
 fn write_step<W: Weight + Copy, S: Steps<W>>(steps: &S, instant: u8, row: &[W], out: &mut [W])
-    requires { (length row.now ≡ BOARD_PLACES) × (length out.old ≡ BOARD_PLACES) }
-    ensures { Row W.ops (stepped W.ops (S.step steps.now) instant row.now) out.new }
+    requires { (BOARD_PLACES ≤ length row.now) × (BOARD_PLACES ≤ length out.old) }
+    ensures made { Row W.ops (stepped W.ops (S.step steps.now) instant row.now) out.new }
+    ensures rest { drop BOARD_PLACES out.new ≡ drop BOARD_PLACES out.old }
 {
-    // By number: what is lent is a slice, of which a closure that makes an array knows nothing.
-    for to in 0..BOARD_PLACES {
-        out[to] = gather(steps, instant, row, to as u8);
+    for (to, weight) in out[..BOARD_PLACES].iter_mut().enumerate() {
+        *weight = gather(steps, instant, row, to as u8);
     }
 }
 
-// Walks `count` steps from `start` in two lent rows. A row of weights is as large as the caller makes a weight, so none is put on the stack.
+// Walks `count` steps from `start` in the first 256 entries of two lent rows. A row of weights is as large as the caller makes a weight, so none is put on the stack.
 fn walk_lent<W: Weight + Copy, S: Steps<W>>(
     steps: &S,
     start: u8,
@@ -75,16 +75,15 @@ fn walk_lent<W: Weight + Copy, S: Steps<W>>(
     row: &mut [W],
     spare: &mut [W],
 )
-    requires { (length row.old ≡ BOARD_PLACES) × (length spare.old ≡ BOARD_PLACES) }
-    ensures totals { Row W.ops (total W.ops (S.step steps.now) count 0 start) row.new }
-    ensures spare_totals { Row W.ops (total W.ops (S.step steps.now) count 0 start) spare.new }
+    requires { (BOARD_PLACES ≤ length row.old) × (BOARD_PLACES ≤ length spare.old) }
+    ensures { Walked W.ops (S.step steps.now) count start row.old spare.old row.new spare.new }
 {
     write_begin(start, row);
+    write_begin(start, spare);
     for instant in 0..count {
         write_step(steps, instant, row, spare);
-        row.copy_from_slice(spare);
+        copy(spare, row);
     }
-    spare.copy_from_slice(row);
 }
 
 // Walks `count` steps from `start`, and writes into the first 256 entries of two rows what each place then has; shorter rows are refused.
@@ -101,12 +100,6 @@ pub fn walk<W: Weight + Copy, S: Steps<W>>(
     if row.len() < BOARD_PLACES || spare.len() < BOARD_PLACES {
         return Err(Cause::BufferTooShort.into());
     }
-    walk_lent(
-        steps,
-        start,
-        count,
-        &mut row[..BOARD_PLACES],
-        &mut spare[..BOARD_PLACES],
-    );
+    walk_lent(steps, start, count, row, spare);
     Ok(())
 }

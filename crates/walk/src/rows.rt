@@ -1,5 +1,5 @@
 // Rows of weights, one entry for each place of the board.
-ghost use Rattle.std.specs.Prelude.{◌≡◌, if◌then◌else◌, nat_eq, length};
+ghost use Rattle.std.specs.Prelude.{◌≡◌, ◌≤◌, if◌then◌else◌, nat_eq, ◌++◌, length, take, drop};
 ghost use Rattle.walk.specs.Sequences.{Row};
 
 use crate::weight::Weight;
@@ -30,13 +30,21 @@ pub(crate) fn begin<W: Weight + Copy>(start: u8) -> Layer<W>
     )
 }
 
-// Writes the same into a lent row.
+// Writes the same into the first 256 entries of a lent row.
 pub(crate) fn write_begin<W: Weight + Copy>(start: u8, row: &mut [W])
-    requires { length row.old ≡ BOARD_PLACES }
-    ensures { Row W.ops (λ q. (if nat_eq start q then W.ops.one else W.ops.nought)) row.new }
+    requires { BOARD_PLACES ≤ length row.old }
+    ensures made { Row W.ops (λ q. (if nat_eq start q then W.ops.one else W.ops.nought)) row.new }
+    ensures rest { drop BOARD_PLACES row.new ≡ drop BOARD_PLACES row.old }
 {
-    // By number: `fill_with` tells nothing of a number, and `fill` asks for a weight that can be cloned without fail.
-    for place in 0..BOARD_PLACES {
-        row[place] = unit(start, place);
+    for (place, weight) in row[..BOARD_PLACES].iter_mut().enumerate() {
+        *weight = unit(start, place);
     }
+}
+
+// Copies the first 256 entries of a row into another.
+pub(crate) fn copy<W: Copy>(from: &[W], to: &mut [W])
+    requires { (BOARD_PLACES ≤ length from.now) × (BOARD_PLACES ≤ length to.old) }
+    ensures { to.new ≡ take BOARD_PLACES from.now ++ drop BOARD_PLACES to.old }
+{
+    to[..BOARD_PLACES].copy_from_slice(&from[..BOARD_PLACES]);
 }
