@@ -1,16 +1,16 @@
 // The calls of a search.
-ghost use Rattle.std.specs.Prelude.{◌≡◌, suc, take, OnErr};
-ghost use Rattle.std.specs.Option.{option_map};
+ghost use Rattle.std.specs.Prelude.{◌≡◌, suc, ◌<◌, take, OnErr, vec_len, slice_index_or};
+ghost use Rattle.std.specs.Option.{option_map, IfSome};
 ghost use Rattle.tree.specs.Tree as tree;
 ghost use Rattle.tree.specs.Calls as calls;
 ghost use Rattle.engine.specs.Model.{Model};
-ghost use Rattle.engine.specs.Table.{plan_of};
+ghost use Rattle.engine.specs.Table.{plan_of, empty};
 ghost use Rattle.engine.specs.Engine.{IsAt, Answers, solution, route_told, makespan_told};
 ghost use Rattle.engine.specs.Calls.{status_of, call_of, answer_of, told_of};
 
 use super::call::{Answer, Call, Refusal, Status};
 use super::cost::greatest_cost;
-use super::node::{Node, Route, Verdict};
+use super::node::{Route, Verdict};
 use super::problem::Problem;
 use super::state::Engine;
 
@@ -29,21 +29,23 @@ impl Engine {
         Status::from(self.verdict)
     }
 
-    // The node that solves the search, if there is one.
-    fn solved(&self) -> Option<&Node>
-        ensures { (m : Model) (t : tree.Tree) → IsAt m self.now t → option_map (λ node. plan_of m.setting node.now.routes) result ≡ solution t.nodes t.verdict }
+    // The number of the node that solves the search, if there is one.
+    fn solved(&self) -> Option<u16>
+        ensures inside { IfSome result (λ number. number < vec_len self.now.table.nodes) }
+        ensures node { (m : Model) (t : tree.Tree) → IsAt m self.now t → option_map (λ number. plan_of m.setting (slice_index_or self.now.table.nodes.items number empty).routes) result ≡ solution t.nodes t.verdict }
     {
         let Verdict::Solved(number) = self.verdict else {
             return None;
         };
-        Some(self.table.node(number))
+        Some(number)
     }
 
     // Where a sled is at an instant in the solved node.
     pub fn place<P: Problem>(&self, problem: &P, sled: usize, instant: usize) -> Result<u8, Refusal>
         ensures { (t : tree.Tree) → IsAt (P.Problem.model problem.now) self.now t → told_of calls.stands result ≡ calls.placed (P.Problem.model problem.now).setting t.nodes t.verdict sled instant }
     {
-        let node = self.solved().ok_or(Refusal::NotSolved)?;
+        let number = self.solved().ok_or(Refusal::NotSolved)?;
+        let node = self.table.node(number);
         if sled < problem.sleds() && instant <= problem.horizon().steps as usize {
             Ok(node.routes[sled][instant])
         } else {
@@ -55,7 +57,8 @@ impl Engine {
     pub fn route<P: Problem>(&self, problem: &P, sled: usize) -> Option<Route>
         ensures { (t : tree.Tree) → IsAt (P.Problem.model problem.now) self.now t → option_map (take (suc (P.Problem.model problem.now).setting.horizon)) result ≡ route_told (P.Problem.model problem.now).setting t.nodes t.verdict sled }
     {
-        let node = self.solved()?;
+        let number = self.solved()?;
+        let node = self.table.node(number);
         (sled < problem.sleds())
             .then(|| &node.routes[sled])
             .copied()
@@ -65,8 +68,8 @@ impl Engine {
     pub fn makespan<P: Problem>(&self, problem: &P) -> Option<u8>
         ensures { (t : tree.Tree) → IsAt (P.Problem.model problem.now) self.now t → result ≡ makespan_told (P.Problem.model problem.now).setting t.nodes t.verdict }
     {
-        let node = self.solved()?;
-        Some(greatest_cost(problem, &node.routes))
+        let number = self.solved()?;
+        Some(greatest_cost(problem, &self.table.node(number).routes))
     }
 
     // Makes turns until there are as many as asked or the search ends, and answers how many it made.
