@@ -1,10 +1,11 @@
 // What is done at the hatch with a job file: the plan, and what may be asked besides.
 #![tactic(auto)]
 
-ghost use Rattle.std.specs.Prelude.{◌≡◌, ◌≢◌, true, codes, MatchResult};
+ghost use Rattle.std.specs.Prelude.{◌≡◌, ◌≢◌, true, codes, IfOk, OnOk, MatchResult};
 ghost use Rattle.job.specs.declared.job.Job.{Job};
 ghost use Rattle.job.specs.Facts.{facts};
 ghost use Rattle.job.specs.Format.{encode};
+ghost use Rattle.hatch.specs.Planning.{JobSearch, Planned};
 
 use crate::drive::drive;
 use anyhow::{anyhow, bail};
@@ -58,7 +59,9 @@ impl Asked {
 }
 
 // Prints what is asked of a job file on standard output. A refusal's line is printed as well, and is an error.
-pub fn answer(rt: &HostRuntime, asked: Asked, file: &[u8]) -> anyhow::Result<()> {
+pub fn answer(rt: &HostRuntime, asked: Asked, file: &[u8]) -> anyhow::Result<()>
+    ensures { OnOk result ((job : Job) × (file.now ≡ encode (facts job)) × ((search : JobSearch) × Planned job search)) }
+{
     tell(rt, asked, &accepted(rt, file)?)
 }
 
@@ -71,8 +74,10 @@ pub fn accepted(rt: &HostRuntime, file: &[u8]) -> anyhow::Result<Job>
     Ok(job)
 }
 
-// Prints what is asked of a job.
-pub fn tell(rt: &HostRuntime, asked: Asked, job: &Job) -> anyhow::Result<()> {
+// Prints what is asked of a job. It is an error if no search has run the job to its end.
+pub fn tell(rt: &HostRuntime, asked: Asked, job: &Job) -> anyhow::Result<()>
+    ensures { OnOk result ((search : JobSearch) × Planned job.now search) }
+{
     if asked.check {
         check(rt, job)?;
     }
@@ -84,7 +89,9 @@ pub fn tell(rt: &HostRuntime, asked: Asked, job: &Job) -> anyhow::Result<()> {
 }
 
 // The joint plan: the job is opened, searched to its end, and told.
-fn plan(rt: &HostRuntime, job: &Job) -> anyhow::Result<Search<JobFleet, SharedCell>> {
+fn plan(rt: &HostRuntime, job: &Job) -> anyhow::Result<Search<JobFleet, SharedCell>>
+    ensures { IfOk result (Planned job.now) }
+{
     let mut search = Search::new(rt.alloc(), fleet_of(job), SharedCell)?;
     let whole = [Call::Advance(u32::from(job.limit()) + 1)];
     match search.run(rt.alloc(), job, &whole) {
