@@ -14,7 +14,7 @@ use Rattle.search.specs.declared.call.Answer.{Answer}
 use Rattle.search.specs.declared.state.Search.{Search}
 use Rattle.search.specs.Runs.{Ran}
 
--- a search with a fleet as a job names one, by shared cells
+-- a search with a fleet as a job names one, by the rule of shared cells
 abbrev pub JobSearch : Type 0
 JobSearch = Search (Skirt (Convoy Rectangles Outlines)) SharedCell
 

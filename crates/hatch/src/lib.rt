@@ -74,7 +74,7 @@ pub fn accepted(rt: &HostRuntime, file: &[u8]) -> anyhow::Result<Job>
     Ok(job)
 }
 
-// Prints what is asked of a job. It is an error if no search has run the job to its end.
+// Prints what is asked of a job. Without an error there is a search that has run the job to its end; of what is printed nothing is promised.
 pub fn tell(rt: &HostRuntime, asked: Asked, job: &Job) -> anyhow::Result<()>
     ensures { OnOk result ((search : JobSearch) × Planned job.now search) }
 {

@@ -11,7 +11,7 @@ use Rattle.split.specs.Rules.{single_sets}
 use Rattle.plans.specs.Tasks.{OfFloor, TaskTerms}
 use Rattle.plans.specs.Instance.{SplitTerms}
 use Rattle.plans.proofs.Terms.{setting_terms, rule_terms}
-use Rattle.trials.specs.Trials.{at, aisle, square, task_on, searches, trials, TaskKeepsTerms, AllOf, SearchesKeepTerms, KeepsTerms}
+use Rattle.trials.specs.Trials.{at, aisle, square, task_on, searches, trials, SearchKeepsTerms, AllOf, SearchesKeepTerms, KeepsTerms}
 use Rattle.trials.proofs.Shown.{one_near}
 
 one_of : (floor : Floor) (u : Position) → OfFloor floor u → AllOf floor (u ∷ [])
@@ -40,17 +40,17 @@ searches_keep_terms floor horizon starts goals lasts few same begin end =
     record { lasts = lasts; starts = begin; goals = λ s below. end s (rw same below); fleet = fleet_terms starts few } in
     (setting_terms _ terms, rule_terms _ terms single_sets single_terms)
 
-one : (floor : Floor) (horizon : ℕ) (u v : Position) → 1 ≤ horizon → OfFloor floor u → OfFloor floor v → TaskKeepsTerms floor horizon (u ∷ []) (v ∷ [])
+one : (floor : Floor) (horizon : ℕ) (u v : Position) → 1 ≤ horizon → OfFloor floor u → OfFloor floor v → SearchKeepsTerms floor horizon (u ∷ []) (v ∷ [])
 one floor horizon u v lasts h k = searches_keep_terms floor horizon (u ∷ []) (v ∷ []) lasts (lit≤ tt) refl (one_of floor u h) (one_of floor v k)
 
 -- two sleds that change their places
-two : (floor : Floor) (horizon : ℕ) (u v : Position) → 1 ≤ horizon → OfFloor floor u → OfFloor floor v → TaskKeepsTerms floor horizon (u ∷ v ∷ []) (v ∷ u ∷ [])
+two : (floor : Floor) (horizon : ℕ) (u v : Position) → 1 ≤ horizon → OfFloor floor u → OfFloor floor v → SearchKeepsTerms floor horizon (u ∷ v ∷ []) (v ∷ u ∷ [])
 two floor horizon u v lasts h k = searches_keep_terms floor horizon (u ∷ v ∷ []) (v ∷ u ∷ []) lasts (lit≤ tt) refl (two_of floor u v h k) (two_of floor v u k h)
 
-ends : TaskKeepsTerms aisle 2 (at 0 0 ∷ at 2 0 ∷ []) (at 2 0 ∷ at 0 0 ∷ [])
+ends : SearchKeepsTerms aisle 2 (at 0 0 ∷ at 2 0 ∷ []) (at 2 0 ∷ at 0 0 ∷ [])
 ends = two aisle 2 (at 0 0) (at 2 0) (lit≤ tt) (lit≤ tt, lit≤ tt) (lit≤ tt, lit≤ tt)
 
-corners : TaskKeepsTerms square 2 (at 0 0 ∷ at 1 1 ∷ []) (at 1 1 ∷ at 0 0 ∷ [])
+corners : SearchKeepsTerms square 2 (at 0 0 ∷ at 1 1 ∷ []) (at 1 1 ∷ at 0 0 ∷ [])
 corners = two square 2 (at 0 0) (at 1 1) (lit≤ tt) (lit≤ tt, lit≤ tt) (lit≤ tt, lit≤ tt)
 
 searches_keep : AllByRecursion KeepsTerms searches

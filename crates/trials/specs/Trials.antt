@@ -118,8 +118,8 @@ Holds (searched floor horizon starts goals limit n bound' verdict routes) =
     (routes_found tree.nodes tree.verdict ≡ map (map number_of) routes)
 
 -- the setting and the rule of such a task keep the terms of trees, so that the theorems speak of its search
-abbrev pub TaskKeepsTerms : Floor → (horizon : ℕ) (starts goals : List Position) → Type 0
-TaskKeepsTerms floor horizon starts goals =
+abbrev pub SearchKeepsTerms : Floor → (horizon : ℕ) (starts goals : List Position) → Type 0
+SearchKeepsTerms floor horizon starts goals =
     let K = task_on floor horizon starts goals in
     SettingTerms (setting_of K) × RuleTerms (setting_of K) (rule_of K single_sets)
 
@@ -131,11 +131,11 @@ AllOf floor us = (k : ℕ) → k < length us → OfFloor floor (slice_index_or u
 abbrev pub SearchesKeepTerms : Type 0
 SearchesKeepTerms =
     (floor : Floor) (horizon : ℕ) (starts goals : List Position) → 1 ≤ horizon → length starts ≤ 6 → length goals ≡ length starts →
-    AllOf floor starts → AllOf floor goals → TaskKeepsTerms floor horizon starts goals
+    AllOf floor starts → AllOf floor goals → SearchKeepsTerms floor horizon starts goals
 
 -- and so it is with each search of the table
 abbrev pub KeepsTerms : Trial → Type 0
-KeepsTerms (searched floor horizon starts goals limit n bound' verdict routes) = TaskKeepsTerms floor horizon starts goals
+KeepsTerms (searched floor horizon starts goals limit n bound' verdict routes) = SearchKeepsTerms floor horizon starts goals
 KeepsTerms _ = Unit {0}
 
 -- sleds that meet, skirts, and sets of a rule
