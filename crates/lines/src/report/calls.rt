@@ -8,17 +8,17 @@ use crate::outcome::{Outcome, put_outcome};
 use crate::report::Report;
 use crate::route::put_route;
 use fault::cause::Fault;
-use fault::lines::{LINES_BUFFER, Lines, write_lines};
+use fault::lines::{LINES_BUFFER, Lines, MeasuredLines, write_measured_lines};
 use text::Text;
 
 // Writes the lines from the front of the buffer, and answers their length.
 pub fn write_report(report: &Report, out: &mut [u8]) -> Result<usize, Fault>
     ensures { Writes (report_lines report.now) out.old out.new result }
 {
-    write_lines(report, out)
+    write_measured_lines(report, out)
 }
 
-impl Lines for Report<'_> {
+impl MeasuredLines for Report<'_> {
     ghost lines = { report_lines };
 
     ghost least = { least_buffer };
@@ -29,11 +29,19 @@ impl Lines for Report<'_> {
         LINES_BUFFER
     }
 
-    fn put(&self, text: &mut Text) {
+    fn put_measured(&self, text: &mut Text) {
         put_outcome(text, self.outcome, self.turns);
         if let Outcome::Solved { .. } = self.outcome {
             put_plan(text, self);
         }
+    }
+}
+
+impl Lines for Report<'_> {
+    ghost lines = { report_lines };
+
+    fn put(&self, text: &mut Text) {
+        self.put_measured(text);
     }
 }
 

@@ -5,7 +5,7 @@ use Rattle.text.proofs.Written.{appends-both}
 use Rattle.lines.specs.Plans.{outcome_line}
 use Rattle.lines.specs.Reports.{plan_lines, report_lines, lines_after}
 use Rattle.lines.proofs.Lengths.{only_solved}
-use Rattle.lines.proofs.report.calls.ReportLines.put.Goals as goal
+use Rattle.lines.proofs.report.calls.ReportMeasuredLines.put_measured.Goals as goal
 
 pub returns-in-Solved : goal.returns-in-Solved
 unfolding report_lines

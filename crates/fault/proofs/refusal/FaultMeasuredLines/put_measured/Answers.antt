@@ -3,7 +3,7 @@ use Rattle.text.specs.Texts.{Appends}
 use Rattle.text.proofs.Written.{appends-put, appends-both}
 use Rattle.fault.specs.Lines.{refusal_line}
 use Rattle.fault.proofs.Refusals.{told, told_short}
-use Rattle.fault.proofs.refusal.FaultLines.put.Goals as goal
+use Rattle.fault.proofs.refusal.FaultMeasuredLines.put_measured.Goals as goal
 
 pub returns : goal.returns
 unfolding refusal_line
