@@ -10,7 +10,7 @@ unfoldable pub refusal_line : Fault → List ℕ
 refusal_line f =
     codes "refused " ++ decimal (number_of f.cause) ++ codes " " ++ decimal (layer_number (layer_of f.cause)) ++ codes " " ++ decimal f.place ++ codes "\n"
 
--- the smallest buffer that takes all lines
+-- the smallest buffer that takes all `Lines`
 abbrev pub least_buffer : ℕ
 least_buffer = 4096
 
@@ -21,6 +21,6 @@ WritesInto least bytes before after (Ok n) =
 WritesInto least bytes before after (Err f) =
     (length before < least) × (f ≡ fault_at BufferTooShort 0) × (after ≡ before)
 
--- the same of the smallest buffer that takes all lines
+-- the same with that buffer as the least
 abbrev pub Writes : (bytes before after : List ℕ) → Result ℕ Fault → Type 0
 Writes = WritesInto least_buffer

@@ -6,7 +6,7 @@ ghost use Rattle.fault.specs.Lines.{Writes, WritesInto, least_buffer};
 use crate::cause::{Cause, Fault};
 use text::Text;
 
-// The smallest buffer that takes all lines.
+// The smallest buffer that takes all `Lines`.
 pub const LINES_BUFFER: usize = 4096;
 
 // What is told by lines that fit a buffer of `LINES_BUFFER` bytes.
@@ -18,7 +18,7 @@ pub trait Lines {
         ensures short { length (lines self.now) ≤ least_buffer };
 }
 
-// What is told by lines of which each kind tells the length of its own smallest buffer.
+// Lines whose kind tells the length of its own smallest buffer.
 pub trait MeasuredLines {
     ghost lines: { Self → List ℕ };
 
@@ -33,7 +33,7 @@ pub trait MeasuredLines {
         ensures short { length (lines self.now) ≤ least };
 }
 
-// Any lines as measured ones: their smallest buffer is the one that takes all lines.
+// Any `Lines` as measured ones, whose smallest buffer is `LINES_BUFFER`.
 #[derive(Drop)]
 struct Measured<'a, L>(&'a L);
 
@@ -58,7 +58,7 @@ pub fn write_lines<L: Lines>(told: &L, out: &mut [u8]) -> Result<usize, Fault>
     write_measured_lines(&Measured(told), out)
 }
 
-// The same of measured lines, into a buffer of the length that their kind tells or more.
+// The same of measured lines, whose kind tells the smallest buffer.
 pub fn write_measured_lines<L: MeasuredLines>(told: &L, out: &mut [u8]) -> Result<usize, Fault>
     ensures { WritesInto L.least (L.lines told.now) out.old out.new result }
 {
